@@ -1,2 +1,3 @@
 pub mod Framing
-pub mod Removals
+pub mod Places
+pub mod Sequences

@@ -43,3 +43,7 @@ insertion r s p b = withinText s p ∷ (withinCapacity r (length s + length b) �
 -- making b the whole text, within the capacity r
 abbrev pub loading : ℕ → List ℕ → List (Bool × Refusal)
 loading r b = withinCapacity r (length b) ∷ (characters b ∷ [])
+
+-- putting b behind the text s, within the capacity r
+abbrev pub appending : ℕ → List ℕ → List ℕ → List (Bool × Refusal)
+appending r s b = withinCapacity r (length s + length b) ∷ (characters b ∷ [])
