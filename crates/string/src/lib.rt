@@ -59,7 +59,7 @@ pub fn insert<S: StringView>(
 }
 
 // The place of the first byte that is no character, or the number of bytes.
-fn first_bad(bytes: &[u8]) -> usize
+pub fn first_bad(bytes: &[u8]) -> usize
     ensures place { λ r. ⌜ r ≡ firstBad (now (bytes .entry)) ⌝ }
     ensures first { λ r. ⌜ FirstAt (λ b. not (isCharacter b)) (now (bytes .entry)) r ⌝ }
 {
