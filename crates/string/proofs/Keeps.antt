@@ -57,7 +57,7 @@ module _ (test : ℕ → Bool) (xs : List ℕ) where
         record {
           within = omega (arith, k .within);
           is =
-          d
-          ∙ ap (λ z. z ++ drop (n + 1) ys) (ap (take n) apart ∙ take-at (take n xs) _ n front)
-          ∙ ap (λ z. take n xs ++ z) (cut ∙ sym (at-drop-more (kept-by test) xs n 0 (omega (arith, k .within)) ∙ cond-false (test (getD xs n 0)) _ _ (ap test (sym byte-is) ∙ e)));
+              d
+              ∙ ap (λ z. z ++ drop (n + 1) ys) (ap (take n) apart ∙ take-at (take n xs) _ n front)
+              ∙ ap (λ z. take n xs ++ z) (cut ∙ sym (at-drop-more (kept-by test) xs n 0 (omega (arith, k .within)) ∙ cond-false (test (getD xs n 0)) _ _ (ap test (sym byte-is) ∙ e)));
         }

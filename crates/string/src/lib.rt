@@ -46,11 +46,7 @@ pub fn is_full<S: StringView>(s: &S) -> bool
 }
 
 // Inserts a byte at a place.
-pub fn insert<S: StringView>(
-    s: &mut S,
-    idx: usize,
-    byte: u8,
-) -> Result<(), StringModificationError>
+pub fn insert<S: StringView>(s: &mut S, idx: usize, byte: u8) -> Result<(), StringModificationError>
     ensures answer { λ r. ⌜ answered told r ≡ firstFail tt (insertion (S·StringView .room (now (s .entry))) (S·StringView .seq (now (s .entry))) idx (byte ∷ [])) ⌝ }
     ensures text { λ r. ⌜ S·StringView .seq (now (s .exit)) ≡ cond (isOk r) (inserted idx (byte ∷ []) (S·StringView .seq (now (s .entry)))) (S·StringView .seq (now (s .entry))) ⌝ }
     ensures frame { λ _. ⌜ Frame S·StringView (now (s .entry)) (now (s .exit)) ⌝ }

@@ -43,7 +43,7 @@ total [] (y ∷ ys) = inl tt
 total (x ∷ xs) [] = inr (inr tt)
 total (x ∷ xs) (y ∷ ys) =
     elim (cases-order x y) [
-        inl e ↦ total-cons x y xs ys e (total xs ys)
+      | inl e ↦ total-cons x y xs ys e (total xs ys)
       | inr (inl l) ↦ inl (inl l)
       | inr (inr l) ↦ inr (inr (inl l))
     ]

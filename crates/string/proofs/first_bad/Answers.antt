@@ -9,7 +9,6 @@ use Rattle.string_view.specs.Characters.{isCharacter}
 use Rattle.string_view.proofs.Places.{first-at, before-here, before-more, before-all}
 use Rattle.string.proofs.first_bad.Needs as need
 
-
 pub returns-then-b-eq0 : need.returns-then-b-eq0
 returns-then-b-eq0 c =
     let xs = c .args .bytes .now in

@@ -10,14 +10,16 @@ pub returns-then-stands-at : need.returns-then-stands-at
 returns-then-stands-at g c = (c .stands-at .ensures .0 (c .if-stands-at .taken), λ q h s. c .loop-end .inv .1 q (omega arith) s)
 
 pub loop-end-again : need.loop-end-again
-loop-end-again g c =
-    (omega arith, λ q h s.
+loop-end-again g c = (
+  omega arith,
+  λ q h s.
       elim (cases-lt (c .loop-end .end - 1) q) [
-          inl l ↦ c .loop-end .inv .1 q (omega arith) s
+        | inl l ↦ c .loop-end .inv .1 q (omega arith) s
         | inr l ↦
-          let e : q ≡ c .loop-end .end - 1 = omega arith in
-          both-ways (c .stands-at .result) (c .if-stands-at .left) (c .stands-at .ensures .1 (subst (Stands (g .S·StringView .seq (c .args .s .now)) (c .args .bytes .now)) e s))
-      ])
+            let e : q ≡ c .loop-end .end - 1 = omega arith in
+            both-ways (c .stands-at .result) (c .if-stands-at .left) (c .stands-at .ensures .1 (subst (Stands (g .S·StringView .seq (c .args .s .now)) (c .args .bytes .now)) e s))
+      ],
+)
 
 pub returns : need.returns
 returns g c = λ q s. c .loop-end .inv .1 q (omega arith) s

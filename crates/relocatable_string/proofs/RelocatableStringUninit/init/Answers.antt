@@ -18,9 +18,9 @@ returns c =
     let k : c .args .self .capacity ≡ a = search needs in
     let e : zs ≡ wiped a xs =
     elim (c .if-end-region .came) [
-        then-end-region w ↦
-        (let z : w .fill .last .self ≡ replicate (c .args .self .capacity + 1 - 0) 0 = search needs in
-        w .region-is ∙ regions.init-wiped xs _ (c .args .self .capacity) (w .if-end-region .taken) z ∙ ap (λ q. wiped q xs) k)
+      | then-end-region w ↦
+          (let z : w .fill .last .self ≡ replicate (c .args .self .capacity + 1 - 0) 0 = search needs in
+          w .region-is ∙ regions.init-wiped xs _ (c .args .self .capacity) (w .if-end-region .taken) z ∙ ap (λ q. wiped q xs) k)
       | else-end-region w ↦ w .region-is ∙ regions.init-left xs a (omega arith)
     ] in
     record {
