@@ -1,4 +1,13 @@
-use crate::holds;
+use crate::steps::Answer;
+use crate::steps::Answer::Byte;
+use crate::steps::Answer::Done;
+use crate::steps::Answer::No;
+use crate::steps::Answer::Nothing;
+use crate::steps::Answer::Refused;
+use crate::steps::Answer::Yes;
+use crate::steps::Call::*;
+use crate::steps::Step;
+use crate::steps::follow;
 use narrow::Narrow;
 use narrow::NarrowView;
 use relocatable_string::RelocatableStringUninit;
@@ -6,189 +15,174 @@ use relocatable_string::RelocatableStringView;
 use static_string::StaticString;
 use static_string::StaticStringView;
 use std::test::*;
-use string::clear;
-use string::first_bad;
-use string::insert;
-use string::insert_bytes;
-use string::is_empty;
-use string::is_full;
-use string::pick::ByteList;
-use string::pick::ByteListPick;
-use string::pick::ByteRange;
-use string::pick::ByteRangePick;
-use string::pop;
-use string::push;
-use string::push_bytes;
-use string::remove;
-use string::remove_range;
-use string::retain;
-use string::truncate;
 use string_view::StringView;
-use string_view::error::StringModificationError;
-use string_view::error::StringModificationErrorDebug;
-use string_view::error::StringModificationErrorPartialEq;
+use string_view::error::StringModificationError::InsertWouldExceedCapacity;
+use string_view::error::StringModificationError::InvalidCharacter;
+use string_view::error::StringModificationError::PositionOutOfRange;
 
-// An empty storage of capacity 8.
-fn insertions<S: StringView>(s: &mut S) -> Result<(), Fail> {
-    let beyond = Err(StringModificationError::PositionOutOfRange);
-    let too_long = Err(StringModificationError::InsertWouldExceedCapacity);
-    check_eq(is_empty(s), true)?;
-    check_eq(is_full(s), false)?;
-    check_eq(insert_bytes(s, 1, b"a"), beyond)?;
-    check_eq(insert_bytes(s, 0, b"GR 12"), Ok(()))?;
-    check_eq(insert(s, 1, b'B'), Ok(()))?;
-    holds(s, b"GBR 12")?;
-    check_eq(insert_bytes(s, 7, b"3"), beyond)?;
-    check_eq(insert_bytes(s, 7, b"345"), beyond)?;
-    check_eq(insert_bytes(s, 6, b"345"), too_long)?;
-    check_eq(insert_bytes(s, usize::MAX, b""), beyond)?;
-    holds(s, b"GBR 12")?;
-    check_eq(push(s, b'3'), Ok(()))?;
-    check_eq(push_bytes(s, b"45"), too_long)?;
-    check_eq(push_bytes(s, b"4"), Ok(()))?;
-    check_eq(is_full(s), true)?;
-    check_eq(push(s, b'5'), too_long)?;
-    check_eq(push_bytes(s, b""), Ok(()))?;
-    holds(s, b"GBR 1234")
-}
+const TOO_LONG: Answer = Refused(InsertWouldExceedCapacity);
 
-// Which bytes are characters, and in which order a refusal is told. An empty storage of capacity 8.
-fn characters<S: StringView>(s: &mut S) -> Result<(), Fail> {
-    check_eq(push_bytes(s, &[1, 127]), Ok(()))?;
-    check_eq(
-        push(s, 0),
-        Err(StringModificationError::InvalidCharacter { place: 0 }),
-    )?;
-    check_eq(
-        push_bytes(s, &[b'a', 128]),
-        Err(StringModificationError::InvalidCharacter { place: 1 }),
-    )?;
-    check_eq(
-        insert_bytes(s, 2, &[255, 0, b'a']),
-        Err(StringModificationError::InvalidCharacter { place: 0 }),
-    )?;
-    check_eq(
-        push_bytes(s, &[b'a', b'b', b'c', b'd', b'e', b'f', 200]),
-        Err(StringModificationError::InsertWouldExceedCapacity),
-    )?;
-    check_eq(
-        insert(s, 3, 200),
-        Err(StringModificationError::PositionOutOfRange),
-    )?;
-    holds(s, &[1, 127])
-}
+const BEYOND: Answer = Refused(PositionOutOfRange);
 
-// An empty storage of capacity 8.
-fn removals<S: StringView>(s: &mut S) -> Result<(), Fail> {
-    check_eq(pop(s), None)?;
-    check_eq(remove(s, 0), None)?;
-    check_eq(remove_range(s, 0, 0), true)?;
-    check_eq(push_bytes(s, b"GBR 1234"), Ok(()))?;
-    check_eq(remove(s, 8), None)?;
-    check_eq(remove(s, usize::MAX), None)?;
-    check_eq(remove_range(s, 8, 0), true)?;
-    check_eq(remove_range(s, 8, 1), false)?;
-    check_eq(remove_range(s, 9, 0), false)?;
-    check_eq(remove_range(s, 1, usize::MAX), false)?;
-    holds(s, b"GBR 1234")?;
-    check_eq(remove(s, 3), Some(b' '))?;
-    check_eq(pop(s), Some(b'4'))?;
-    check_eq(remove_range(s, 3, 2), true)?;
-    holds(s, b"GBR3")
-}
+// From empty to full, at capacity 8.
+const INSERTIONS: [Step; 14] = [
+    (InsertBytes(1, b"a"), BEYOND, b""),
+    (InsertBytes(0, b"GR 12"), Done, b"GR 12"),
+    (Insert(1, b'B'), Done, b"GBR 12"),
+    (InsertBytes(7, b"3"), BEYOND, b"GBR 12"),
+    (InsertBytes(7, b"345"), BEYOND, b"GBR 12"),
+    (InsertBytes(6, b"345"), TOO_LONG, b"GBR 12"),
+    (InsertBytes(usize::MAX, b""), BEYOND, b"GBR 12"),
+    (Push(b'3'), Done, b"GBR 123"),
+    (PushBytes(b"45"), TOO_LONG, b"GBR 123"),
+    (PushBytes(b"4"), Done, b"GBR 1234"),
+    (Push(b'5'), TOO_LONG, b"GBR 1234"),
+    (PushBytes(b""), Done, b"GBR 1234"),
+    (InsertBytes(8, b""), Done, b"GBR 1234"),
+    (Clear, Done, b""),
+];
 
-// An empty storage of capacity 8.
-fn cuts<S: StringView>(s: &mut S) -> Result<(), Fail> {
-    check_eq(push_bytes(s, b"GBR 1212"), Ok(()))?;
-    truncate(s, 9);
-    truncate(s, 8);
-    holds(s, b"GBR 1212")?;
-    retain(s, &ByteList { bytes: b"2G" });
-    holds(s, b"BR 11")?;
-    retain(s, &ByteList { bytes: b"" });
-    retain(s, &ByteRange { first: 2, last: 1 });
-    holds(s, b"BR 11")?;
-    retain(
-        s,
-        &ByteRange {
-            first: b'B',
-            last: b'Q',
-        },
-    );
-    holds(s, b"R 11")?;
-    truncate(s, 3);
-    holds(s, b"R 1")?;
-    retain(
-        s,
-        &ByteRange {
-            first: 0,
-            last: 255,
-        },
-    );
-    holds(s, b"")?;
-    check_eq(push(s, b'7'), Ok(()))?;
-    clear(s);
-    clear(s);
-    holds(s, b"")
-}
+// Which bytes are characters, and which refusal is told first.
+const CHARACTERS: [Step; 8] = [
+    (PushBytes(b"\x01\x7f"), Done, b"\x01\x7f"),
+    (Push(0), Refused(InvalidCharacter { place: 0 }), b"\x01\x7f"),
+    (
+        PushBytes(b"a\x80"),
+        Refused(InvalidCharacter { place: 1 }),
+        b"\x01\x7f",
+    ),
+    (
+        InsertBytes(2, b"ab\xff\0"),
+        Refused(InvalidCharacter { place: 2 }),
+        b"\x01\x7f",
+    ),
+    (
+        PushBytes(b"O\xe2\x80\x99"),
+        Refused(InvalidCharacter { place: 1 }),
+        b"\x01\x7f",
+    ),
+    (PushBytes(b"abcdef\xff"), TOO_LONG, b"\x01\x7f"),
+    (Insert(3, 200), BEYOND, b"\x01\x7f"),
+    (Clear, Done, b""),
+];
 
-fn all_edits<S: StringView>(s: &mut S) -> Result<(), Fail> {
-    insertions(s)?;
-    clear(s);
-    characters(s)?;
-    clear(s);
-    removals(s)?;
-    clear(s);
-    cuts(s)
+const REMOVALS: [Step; 16] = [
+    (Pop, Nothing, b""),
+    (Remove(0), Nothing, b""),
+    (RemoveRange(0, 0), Yes, b""),
+    (PushBytes(b"GBR 1234"), Done, b"GBR 1234"),
+    (Remove(8), Nothing, b"GBR 1234"),
+    (Remove(usize::MAX), Nothing, b"GBR 1234"),
+    (RemoveRange(8, 0), Yes, b"GBR 1234"),
+    (RemoveRange(8, 1), No, b"GBR 1234"),
+    (RemoveRange(9, 0), No, b"GBR 1234"),
+    (RemoveRange(1, usize::MAX), No, b"GBR 1234"),
+    (Remove(3), Byte(b' '), b"GBR1234"),
+    (Pop, Byte(b'4'), b"GBR123"),
+    (RemoveRange(3, 2), Yes, b"GBR3"),
+    (Remove(0), Byte(b'G'), b"BR3"),
+    (RemoveRange(0, 3), Yes, b""),
+    (Clear, Done, b""),
+];
+
+// A pick names what goes.
+const CUTS: [Step; 13] = [
+    (PushBytes(b"GBR 1212"), Done, b"GBR 1212"),
+    (Truncate(usize::MAX), Done, b"GBR 1212"),
+    (Truncate(8), Done, b"GBR 1212"),
+    (RetainList(b"2G"), Done, b"BR 11"),
+    (RetainList(b""), Done, b"BR 11"),
+    (RetainRange(2, 1), Done, b"BR 11"),
+    (RetainRange(b'B', b'Q'), Done, b"R 11"),
+    (RetainRange(b'2', b'3'), Done, b"R 11"),
+    (Truncate(3), Done, b"R 1"),
+    (RetainRange(0, 255), Done, b""),
+    (Push(b'7'), Done, b"7"),
+    (Truncate(0), Done, b""),
+    (Clear, Done, b""),
+];
+
+// The ending stands twice, and only the last one goes.
+const STRIPS: [Step; 16] = [
+    (StripPrefix(b""), Yes, b""),
+    (StripSuffix(b""), Yes, b""),
+    (StripPrefix(b"G"), No, b""),
+    (StripSuffix(b"2"), No, b""),
+    (PushBytes(b"GBR 1212"), Done, b"GBR 1212"),
+    (StripPrefix(b""), Yes, b"GBR 1212"),
+    (StripSuffix(b""), Yes, b"GBR 1212"),
+    (StripSuffix(b"12"), Yes, b"GBR 12"),
+    (StripSuffix(b"1"), No, b"GBR 12"),
+    (StripPrefix(b"BR"), No, b"GBR 12"),
+    (StripPrefix(b"GBR 123"), No, b"GBR 12"),
+    (StripSuffix(b"GBR 123"), No, b"GBR 12"),
+    (StripSuffix(b"BR 13"), No, b"GBR 12"),
+    (StripPrefix(b"GBR"), Yes, b" 12"),
+    (StripSuffix(b" 12"), Yes, b""),
+    (Clear, Done, b""),
+];
+
+// A string in use is loaded anew, or keeps its text.
+const LOADS: [Step; 9] = [
+    (FromBytes(b"ab"), Done, b"ab"),
+    (FromBytes(b"GBR 12345"), TOO_LONG, b"ab"),
+    (FromBytes(b"a\0b\xffGBR 1"), TOO_LONG, b"ab"),
+    (
+        FromBytes(b"a\0\xff"),
+        Refused(InvalidCharacter { place: 1 }),
+        b"ab",
+    ),
+    (
+        FromBytesTruncated(b"GBR 123\x80"),
+        Refused(InvalidCharacter { place: 7 }),
+        b"ab",
+    ),
+    (FromBytesTruncated(b"GBR 1234\x80"), Done, b"GBR 1234"),
+    (FromBytesTruncated(b"e"), Done, b"e"),
+    (FromBytes(b"GBR 1234"), Done, b"GBR 1234"),
+    (FromBytes(b""), Done, b""),
+];
+
+// Slots with a zero and with none, shorter and longer than capacity + 1.
+const SLOTS: [Step; 8] = [
+    (FromCStr(b"GBR 1234\0\xff"), Done, b"GBR 1234"),
+    (FromCStr(b"GBR 12345"), TOO_LONG, b"GBR 1234"),
+    (FromCStr(b"GBR 12345\0"), TOO_LONG, b"GBR 1234"),
+    (
+        FromCStr(b"\xe2\x80\x99\0"),
+        Refused(InvalidCharacter { place: 0 }),
+        b"GBR 1234",
+    ),
+    (FromCStr(b"xyz"), Done, b"xyz"),
+    (FromCStr(b"ab\0c\0"), Done, b"ab"),
+    (FromCStr(b"\0abc"), Done, b""),
+    (FromCStr(b""), Done, b""),
+];
+
+// Every table, on an empty storage of capacity 8 that is empty again after each.
+fn all_tables<S: StringView>(s: &mut S) -> Result<(), Fail> {
+    follow(s, &INSERTIONS)?;
+    follow(s, &CHARACTERS)?;
+    follow(s, &REMOVALS)?;
+    follow(s, &CUTS)?;
+    follow(s, &STRIPS)?;
+    follow(s, &LOADS)?;
+    follow(s, &SLOTS)
 }
 
 #[test]
-fn edits_by_value() -> Result<(), Fail> {
-    all_edits(&mut StaticString::new(8))
+fn by_value() -> Result<(), Fail> {
+    all_tables(&mut StaticString::new(8))
 }
 
 #[test]
-fn edits_in_a_region() -> Result<(), Fail> {
+fn in_a_region() -> Result<(), Fail> {
     let mut region = [7u8; 12];
-    all_edits(&mut RelocatableStringUninit::new_uninit(8).init(&mut region))?;
+    all_tables(&mut RelocatableStringUninit::new_uninit(8).init(&mut region))?;
     check(region == [0, 0, 0, 0, 0, 0, 0, 0, 0, 7, 7, 7])
 }
 
 #[test]
-fn edits_narrowed() -> Result<(), Fail> {
-    all_edits(&mut Narrow::new(StaticString::new(200), 8))
-}
-
-// A string is full at its capacity, and where a narrowing left it longer.
-#[test]
-fn full_beyond_the_capacity() -> Result<(), Fail> {
-    check_eq(is_full(&StaticString::new(0)), true)?;
-    check_eq(
-        push(&mut StaticString::new(0), b'a'),
-        Err(StringModificationError::InsertWouldExceedCapacity),
-    )?;
-    let mut below = StaticString::new(8);
-    check_eq(push_bytes(&mut below, b"abc"), Ok(()))?;
-    let mut s = Narrow::new(below, 2);
-    check_eq(is_full(&s), true)?;
-    check_eq(
-        push_bytes(&mut s, b""),
-        Err(StringModificationError::InsertWouldExceedCapacity),
-    )?;
-    holds(&s, b"abc")
-}
-
-#[test]
-fn refusals_have_numbers() -> Result<(), Fail> {
-    check_eq(
-        StringModificationError::InsertWouldExceedCapacity.number(),
-        1,
-    )?;
-    check_eq(
-        StringModificationError::InvalidCharacter { place: 9 }.number(),
-        2,
-    )?;
-    check_eq(StringModificationError::PositionOutOfRange.number(), 3)?;
-    check_eq(first_bad(b"GBR"), 3)?;
-    check_eq(first_bad(&[b'G', 226, 128, 153]), 1)
+fn narrowed() -> Result<(), Fail> {
+    all_tables(&mut Narrow::new(Narrow::new(StaticString::new(200), 8), 9))
 }

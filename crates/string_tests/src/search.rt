@@ -1,6 +1,3 @@
-use crate::holds;
-use relocatable_string::RelocatableStringUninit;
-use relocatable_string::RelocatableStringView;
 use static_string::StaticString;
 use static_string::StaticStringView;
 use std::cmp::Ordering;
@@ -10,9 +7,6 @@ use string_search::compare;
 use string_search::find;
 use string_search::rfind;
 use string_search::same;
-use string_search::strip_prefix;
-use string_search::strip_suffix;
-use string_view::StringView;
 use string_view::error::StringModificationError;
 use string_view::error::StringModificationErrorDebug;
 
@@ -22,74 +16,58 @@ fn text(bytes: &[u8]) -> Result<StaticString, StringModificationError> {
     Ok(s)
 }
 
-// Overlapping, twice, empty, absent, longer than the text, at either end.
+// A text, a pattern, and its first and its last place.
+type Place<'a> = (&'a [u8], &'a [u8], Option<usize>, Option<usize>);
+
+// Overlapping, twice, once, empty, absent, longer than the text, at either end.
+const PLACES: [Place; 13] = [
+    (b"anana", b"ana", Some(0), Some(2)),
+    (b"anana", b"n", Some(1), Some(3)),
+    (b"anana", b"nan", Some(1), Some(1)),
+    (b"anana", b"anana", Some(0), Some(0)),
+    (b"anana", b"", Some(0), Some(5)),
+    (b"anana", b"anab", None, None),
+    (b"anana", b"ann", None, None),
+    (b"anana", b"ananas", None, None),
+    (b"GBR 12", b"2", Some(5), Some(5)),
+    (b"GBR 12", b"G", Some(0), Some(0)),
+    (b"aab", b"ab", Some(1), Some(1)),
+    (b"", b"", Some(0), Some(0)),
+    (b"", b"a", None, None),
+];
+
 #[test]
 fn places() -> Result<(), Fail> {
-    let s = text(b"anana")?;
-    check_eq(find(&s, b"ana"), Some(0))?;
-    check_eq(rfind(&s, b"ana"), Some(2))?;
-    check_eq(find(&s, b"n"), Some(1))?;
-    check_eq(rfind(&s, b"n"), Some(3))?;
-    check_eq(find(&s, b""), Some(0))?;
-    check_eq(rfind(&s, b""), Some(5))?;
-    check_eq(find(&s, b"nan"), Some(1))?;
-    check_eq(rfind(&s, b"anana"), Some(0))?;
-    check_eq(find(&s, b"anab"), None)?;
-    check_eq(rfind(&s, b"ann"), None)?;
-    check_eq(find(&s, b"ananas"), None)?;
-    check_eq(rfind(&s, b"ananas"), None)?;
-    let none = text(b"")?;
-    check_eq(find(&none, b""), Some(0))?;
-    check_eq(rfind(&none, b""), Some(0))?;
-    check_eq(find(&none, b"a"), None)
+    for (bytes, pattern, first, last) in &PLACES {
+        let s = text(bytes)?;
+        check_eq(find(&s, pattern), *first)?;
+        check_eq(rfind(&s, pattern), *last)?;
+    }
+    Ok(())
 }
 
-// An empty storage of capacity 8. The suffix stands twice, and only the last one goes.
-fn strips<S: StringView>(s: &mut S) -> Result<(), Fail> {
-    check_eq(strip_prefix(s, b""), true)?;
-    check_eq(strip_suffix(s, b""), true)?;
-    check_eq(strip_prefix(s, b"G"), false)?;
-    push_bytes(s, b"GBR 1212")?;
-    check_eq(strip_prefix(s, b""), true)?;
-    check_eq(strip_suffix(s, b""), true)?;
-    check_eq(strip_suffix(s, b"12"), true)?;
-    holds(s, b"GBR 12")?;
-    check_eq(strip_suffix(s, b"1"), false)?;
-    check_eq(strip_prefix(s, b"BR"), false)?;
-    check_eq(strip_prefix(s, b"GBR 123"), false)?;
-    check_eq(strip_suffix(s, b"GBR 123"), false)?;
-    holds(s, b"GBR 12")?;
-    check_eq(strip_prefix(s, b"GBR"), true)?;
-    holds(s, b" 12")?;
-    check_eq(strip_suffix(s, b" 12"), true)?;
-    holds(s, b"")
-}
+// Two texts, and how the first compares with the second.
+type Rank<'a> = (&'a [u8], &'a [u8], Ordering);
+
+const RANKS: [Rank; 8] = [
+    (b"", b"", Ordering::Equal),
+    (b"", b"a", Ordering::Less),
+    (b"GBR 1", b"GBR 12", Ordering::Less),
+    (b"GBR 12", b"GBR 12", Ordering::Equal),
+    (b"GBR 12", b"GBR 2", Ordering::Less),
+    (b"GBR 2", b"GBR 123", Ordering::Greater),
+    (b"a", b"Z", Ordering::Greater),
+    (b"\x01", b"\x7f", Ordering::Less),
+];
 
 #[test]
-fn strips_on_storages() -> Result<(), Fail> {
-    strips(&mut StaticString::new(8))?;
-    let mut region = [7u8; 9];
-    strips(&mut RelocatableStringUninit::new_uninit(8).init(&mut region))
-}
-
-#[test]
-fn order() -> Result<(), Fail> {
-    let mark = text(b"GBR 12")?;
-    let mut region = [0u8; 20];
-    let mut other = RelocatableStringUninit::new_uninit(9).init(&mut region);
-    check_eq(compare(&mark, &other), Ordering::Greater)?;
-    check_eq(compare(&other, &mark), Ordering::Less)?;
-    push_bytes(&mut other, b"GBR 1")?;
-    check_eq(same(&mark, &other), false)?;
-    check_eq(compare(&mark, &other), Ordering::Greater)?;
-    check_eq(compare(&other, &mark), Ordering::Less)?;
-    push_bytes(&mut other, b"2")?;
-    check_eq(same(&mark, &other), true)?;
-    check_eq(compare(&mark, &other), Ordering::Equal)?;
-    push_bytes(&mut other, b"3")?;
-    check_eq(compare(&mark, &other), Ordering::Less)?;
-    let bigger = text(b"GBR 2")?;
-    check_eq(compare(&bigger, &other), Ordering::Greater)?;
-    check_eq(compare(&other, &bigger), Ordering::Less)?;
-    check_eq(same(&bigger, &text(b"GBR 3")?), false)
+fn ranks() -> Result<(), Fail> {
+    for (first, second, rank) in &RANKS {
+        let a = text(first)?;
+        let b = text(second)?;
+        check_eq(compare(&a, &b), *rank)?;
+        check_eq(compare(&b, &a), rank.reverse())?;
+        check_eq(same(&a, &b), rank.is_eq())?;
+    }
+    Ok(())
 }
