@@ -1,5 +1,4 @@
-// What a line of calls cannot show: capacities, regions, buffers.
-
+use crate::full_of_gbr;
 use narrow::Narrow;
 use narrow::NarrowView;
 use relocatable_string::RelocatableStringUninit;
@@ -82,8 +81,7 @@ fn too_short_a_region() -> Result<(), Fail> {
 
 #[test]
 fn buffers() -> Result<(), Fail> {
-    let mut s = StaticString::new(3);
-    check_eq(s.put(0, b"GBR"), true)?;
+    let s = full_of_gbr();
     let mut buffer = [7u8; 5];
     check_eq(as_bytes(&s, &mut buffer[0..2]), Err(BufferTooShort))?;
     check(buffer == [7; 5])?;
@@ -93,8 +91,7 @@ fn buffers() -> Result<(), Fail> {
 
 #[test]
 fn buffers_with_nul() -> Result<(), Fail> {
-    let mut s = StaticString::new(3);
-    check_eq(s.put(0, b"GBR"), true)?;
+    let s = full_of_gbr();
     let mut buffer = [7u8; 5];
     check_eq(
         as_bytes_with_nul(&s, &mut buffer[0..3]),

@@ -12,8 +12,6 @@ use std::error::AnyError;
 
 mod call;
 mod script;
-#[cfg(test)]
-mod tests;
 
 use call::Answer;
 use call::AnswerPartialEq;
