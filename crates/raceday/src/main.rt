@@ -8,6 +8,7 @@ use relocatable_string::RelocatableStringUninit;
 use relocatable_string::RelocatableStringView;
 use static_string::StaticString;
 use static_string::StaticStringView;
+use std::cmp::Ordering;
 use std::error::AnyError;
 use string::insert_bytes;
 use string::pick::ByteList;
@@ -20,6 +21,7 @@ use string::retain;
 use string_bytes::as_bytes;
 use string_bytes::as_bytes_with_nul;
 use string_bytes::from_bytes;
+use string_search::compare;
 use string_search::strip_suffix;
 use string_view::StringView;
 use string_view::error::StringModificationError;
@@ -137,6 +139,20 @@ fn series_file<S: StringView>(rt: &LibcRuntime, mark: &mut S) -> Result<(), AnyE
     Ok(())
 }
 
+// Where the mark stands on the sheet, beside another one.
+fn sheet<S: StringView>(rt: &LibcRuntime, mark: &S) -> Result<(), AnyError> {
+    let mut other = StaticString::new(MARK);
+    let answer = from_bytes(&mut other, b"GBR13");
+    tell(rt, "next on the sheet", answer, &other)?;
+    let place = match compare(mark, &other) {
+        Ordering::Less => "before",
+        Ordering::Equal => "beside",
+        Ordering::Greater => "after",
+    };
+    println!(rt, "  our mark stands {place} it")?;
+    Ok(())
+}
+
 fn day(rt: &LibcRuntime) -> Result<(), AnyError> {
     let mut typed = StaticString::new(MARK);
     tent(rt, &mut typed)?;
@@ -152,6 +168,7 @@ fn day(rt: &LibcRuntime) -> Result<(), AnyError> {
     let mut narrowed = Narrow::new(mark, 7);
     finish(rt, &mut narrowed)?;
     series_file(rt, &mut narrowed)?;
+    sheet(rt, &narrowed)?;
     println!(rt, "the lent region: {region:?}")?;
     Ok(())
 }

@@ -11,7 +11,7 @@ use Rattle.std.proofs.shelf.Ways.{tells}
 use Rattle.string_view.specs.Sequences.{inserted, removed}
 use Rattle.cells.specs.Texts.{inserting, removing, Zeros}
 use Rattle.cells.proofs.Texts.{inserting-text, inserting-beyond, inserting-zeros, removing-text, removing-beyond, removing-zeros}
-use Rattle.relocatable_string.specs.Region.{used, roomIn, textIn, closedIn, wiped}
+use Rattle.relocatable_string.specs.Region.{used, roomIn, textIn, closedIn, wiped, laidOut}
 
 used-lent : (c n : ℕ) → used c n ≤ n
 used-lent c n = grind (arith, tells)
@@ -111,3 +111,10 @@ module _ (xs zs : List ℕ) (c : ℕ) (e : zs ≡ wiped c xs) where
       ∙ ap (λ q. replicate {A = ℕ} q 0 ++ drop k xs) (omega arith)
       ∙ ap (λ q. replicate (k - 0) 0 ++ q) (sym (ap (λ u. drop u zs) (sym (ap (used c) init-long)) ∙ init-beyond)) in
       zeros-at zs k (used c (length zs)) 0 _ (ap (used c) init-long) (ap length init-text) z
+
+-- a closed string's cells
+pub closed-cells : (c len : ℕ) (xs : List ℕ) → closedIn c len xs → xs ≡ laidOut (used c (length xs)) (textIn c len xs) (drop (used c (length xs)) xs)
+closed-cells c len xs z =
+    let m = min len (roomIn c (length xs)) in
+    let i : length (textIn c len xs) ≡ m = length-take m xs ∙ omega (arith, used-lent c (length xs)) in
+    sym (take-append-drop m xs) ∙ ap (λ q. take m xs ++ drop q xs) (sym i) ∙ ap (λ q. take m xs ++ q) z

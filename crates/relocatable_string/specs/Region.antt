@@ -37,6 +37,10 @@ closedIn c len xs = Zeros (used c (length xs)) (length (textIn c len xs)) xs
 abbrev pub wiped : ℕ → List ℕ → List ℕ
 wiped c xs = replicate (used c (length xs)) 0 ++ drop (used c (length xs)) xs
 
+-- a region of which u cells are in use: the text t, zeros, and the cells b beyond
+abbrev pub laidOut : ℕ → List ℕ → List ℕ → List ℕ
+laidOut u t b = t ++ (replicate (u - length t) 0 ++ b)
+
 -- The fields hold what their bounds allow, so that every value of the types means a string.
 abbrev pub announced : RelocatableStringUninit → ℕ
 announced u = min (u .capacity) 255
@@ -53,8 +57,11 @@ roomOf s = roomIn (announcedOf s) (length (cellsOf s))
 abbrev pub textOf : RelocatableString → List ℕ
 textOf s = textIn (announcedOf s) (s .len) (cellsOf s)
 
+abbrev pub usedOf : RelocatableString → ℕ
+usedOf s = used (announcedOf s) (length (cellsOf s))
+
 abbrev pub beyondOf : RelocatableString → List ℕ
-beyondOf s = drop (used (announcedOf s) (length (cellsOf s))) (cellsOf s)
+beyondOf s = drop (usedOf s) (cellsOf s)
 
 -- which region, how many cells were lent, and the capacity that was announced
 abbrev pub fixedOf : RelocatableString → List ℕ

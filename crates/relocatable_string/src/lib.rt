@@ -9,7 +9,7 @@ ghost use Rattle.string_view.specs.Checks.{firstFail, answered};
 ghost use Rattle.string_view.specs.Frames.{Kept};
 ghost use Rattle.string_view.specs.Refusals.{regionTold};
 ghost use Rattle.string_view.specs.Sequences.{inserted, removed, insertFits, removeFits};
-ghost use Rattle.relocatable_string.specs.Region.{needed, enough, used, roomIn, wiped, announced, cellsOf, roomOf, textOf, beyondOf, fixedOf, closedOf, is-small, is-short};
+ghost use Rattle.relocatable_string.specs.Region.{needed, enough, used, roomIn, wiped, announced, cellsOf, roomOf, textOf, usedOf, beyondOf, fixedOf, closedOf, laidOut, is-small, is-short};
 use cells::insert_into;
 use cells::remove_from;
 use string_view::StringView;
@@ -90,9 +90,11 @@ impl RelocatableStringUninit {
 }
 
 impl RelocatableString<'_> {
-    // The whole region: text, zeros, and what lies beyond.
+    // The whole region. Of a string that `init` made, and whatever calls came since, it is the text, zeros up to
+    // cell number `capacity`, and what lies beyond.
     pub fn cells(&self) -> &[u8]
-        ensures { λ r. ⌜ now r ≡ cellsOf (now (self .entry)) ⌝ }
+        ensures cells { λ r. ⌜ now r ≡ cellsOf (now (self .entry)) ⌝ }
+        ensures layout { λ r. ⌜ (closedOf (now (self .entry)) → now r ≡ laidOut (usedOf (now (self .entry))) (textOf (now (self .entry))) (beyondOf (now (self .entry)))) ⌝ }
     {
         self.region
     }
