@@ -4,7 +4,6 @@
 use narrow::Narrow;
 use narrow::NarrowView;
 use relocatable_string::RelocatableString;
-use relocatable_string::RelocatableStringUninit;
 use relocatable_string::RelocatableStringView;
 use static_string::StaticString;
 use static_string::StaticStringView;
@@ -158,7 +157,7 @@ fn day(rt: &LibcRuntime) -> Result<(), AnyError> {
     tent(rt, &mut typed)?;
 
     let mut region = [b'#'; 12];
-    let announced = RelocatableStringUninit::new_uninit(MARK);
+    let announced = RelocatableString::new_uninit(MARK);
     if announced.fits(&region).is_err() {
         return Err("the region is too short".into());
     }

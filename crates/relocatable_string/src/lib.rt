@@ -31,7 +31,7 @@ pub struct RelocatableString<'a> {
     len: u8,
 }
 
-impl RelocatableStringUninit {
+impl RelocatableString<'_> {
     // Announces a string. A capacity above 255 becomes 255.
     pub fn new_uninit(capacity: usize) -> RelocatableStringUninit
         ensures { λ r. ⌜ announced r ≡ min capacity 255 ⌝ }
@@ -55,6 +55,17 @@ impl RelocatableStringUninit {
         Self::const_memory_size(capacity)
     }
 
+    // The whole region. Of a string that `init` made, and whatever calls came since, it is the text, zeros up to
+    // cell number `capacity`, and what lies beyond.
+    pub fn cells(&self) -> &[u8]
+        ensures cells { λ r. ⌜ now r ≡ cellsOf (now (self .entry)) ⌝ }
+        ensures layout { λ r. ⌜ (closedOf (now (self .entry)) → now r ≡ laidOut (usedOf (now (self .entry))) (textOf (now (self .entry))) (beyondOf (now (self .entry)))) ⌝ }
+    {
+        self.region
+    }
+}
+
+impl RelocatableStringUninit {
     // Whether a region has the cells that `init` needs.
     pub fn fits(&self, region: &[u8]) -> Result<(), RegionTooShort>
         ensures { λ r. ⌜ answered regionTold r ≡ firstFail tt (enough (announced (now (self .entry))) (now (region .entry)) ∷ []) ⌝ }
@@ -86,17 +97,6 @@ impl RelocatableStringUninit {
             capacity,
             len: 0,
         }
-    }
-}
-
-impl RelocatableString<'_> {
-    // The whole region. Of a string that `init` made, and whatever calls came since, it is the text, zeros up to
-    // cell number `capacity`, and what lies beyond.
-    pub fn cells(&self) -> &[u8]
-        ensures cells { λ r. ⌜ now r ≡ cellsOf (now (self .entry)) ⌝ }
-        ensures layout { λ r. ⌜ (closedOf (now (self .entry)) → now r ≡ laidOut (usedOf (now (self .entry))) (textOf (now (self .entry))) (beyondOf (now (self .entry)))) ⌝ }
-    {
-        self.region
     }
 }
 

@@ -4,7 +4,6 @@
 use narrow::Narrow;
 use narrow::NarrowView;
 use relocatable_string::RelocatableString;
-use relocatable_string::RelocatableStringUninit;
 use relocatable_string::RelocatableStringView;
 use static_string::StaticString;
 use static_string::StaticStringView;
@@ -79,7 +78,7 @@ fn main(rt: LibcRuntime) -> Result<(), AnyError> {
     let mut region = [b'#'; 12];
     let mut strings = Strings {
         by_value: StaticString::new(8),
-        lent: RelocatableStringUninit::new_uninit(8).init(&mut region),
+        lent: RelocatableString::new_uninit(8).init(&mut region),
         narrowed: Narrow::new(Narrow::new(StaticString::new(200), 8), 9),
     };
     for line in rt.lines(rt.alloc()) {

@@ -1,7 +1,7 @@
 use crate::full_of_gbr;
 use narrow::Narrow;
 use narrow::NarrowView;
-use relocatable_string::RelocatableStringUninit;
+use relocatable_string::RelocatableString;
 use relocatable_string::RelocatableStringView;
 use static_string::StaticString;
 use static_string::StaticStringView;
@@ -23,9 +23,9 @@ fn capacities() -> Result<(), Fail> {
     check_eq(StaticString::new(0).capacity(), 0)?;
     check_eq(StaticString::new(255).capacity(), 255)?;
     check_eq(StaticString::new(usize::MAX).capacity(), 255)?;
-    check_eq(RelocatableStringUninit::memory_size(0), 1)?;
-    check_eq(RelocatableStringUninit::const_memory_size(255), 256)?;
-    check_eq(RelocatableStringUninit::const_memory_size(usize::MAX), 256)
+    check_eq(RelocatableString::memory_size(0), 1)?;
+    check_eq(RelocatableString::const_memory_size(255), 256)?;
+    check_eq(RelocatableString::const_memory_size(usize::MAX), 256)
 }
 
 #[test]
@@ -56,7 +56,7 @@ fn narrowed_below_the_text() -> Result<(), Fail> {
 #[test]
 fn cells_of_a_region() -> Result<(), Fail> {
     let mut region = [7u8; 8];
-    let mut s = RelocatableStringUninit::new_uninit(4).init(&mut region);
+    let mut s = RelocatableString::new_uninit(4).init(&mut region);
     check(s.cells() == [0, 0, 0, 0, 0, 7, 7, 7])?;
     check_eq(s.put(0, b"abcd"), true)?;
     check(s.cells() == [b'a', b'b', b'c', b'd', 0, 7, 7, 7])?;
@@ -68,7 +68,7 @@ fn cells_of_a_region() -> Result<(), Fail> {
 #[test]
 fn too_short_a_region() -> Result<(), Fail> {
     let mut region = [7u8; 4];
-    let announced = RelocatableStringUninit::new_uninit(4);
+    let announced = RelocatableString::new_uninit(4);
     check_eq(announced.fits(&region), Err(RegionTooShort))?;
     check_eq(announced.fits(&[0; 5]), Ok(()))?;
     let mut s = announced.init(&mut region);
