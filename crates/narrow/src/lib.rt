@@ -23,7 +23,7 @@ impl<S> Narrow<S> {
 
     // The storage below.
     pub fn into_inner(self) -> S
-        ensures { λ r. ⌜ r ≡ self .inner ⌝ }
+        ensures answer { λ r. ⌜ r ≡ self .inner ⌝ }
     {
         let Narrow { inner, .. } = self;
         inner

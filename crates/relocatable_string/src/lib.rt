@@ -34,7 +34,7 @@ pub struct RelocatableString<'a> {
 impl RelocatableString<'_> {
     // Announces a string. A capacity above 255 becomes 255.
     pub fn new_uninit(capacity: usize) -> RelocatableStringUninit
-        ensures { λ r. ⌜ announced r ≡ min capacity 255 ⌝ }
+        ensures answer { λ r. ⌜ announced r ≡ min capacity 255 ⌝ }
     {
         RelocatableStringUninit {
             capacity: capacity.min(255) as u8,
@@ -43,14 +43,14 @@ impl RelocatableString<'_> {
 
     // How many cells a string of a capacity needs: one more than it, for the closing zero.
     pub const fn const_memory_size(capacity: usize) -> usize
-        ensures { λ r. ⌜ r ≡ needed (min capacity 255) ⌝ }
+        ensures answer { λ r. ⌜ r ≡ needed (min capacity 255) ⌝ }
     {
         if capacity < 255 { capacity + 1 } else { 256 }
     }
 
     // As `const_memory_size`.
     pub fn memory_size(capacity: usize) -> usize
-        ensures { λ r. ⌜ r ≡ needed (min capacity 255) ⌝ }
+        ensures answer { λ r. ⌜ r ≡ needed (min capacity 255) ⌝ }
     {
         Self::const_memory_size(capacity)
     }
@@ -68,7 +68,7 @@ impl RelocatableString<'_> {
 impl RelocatableStringUninit {
     // Whether a region has the cells that `init` needs.
     pub fn fits(&self, region: &[u8]) -> Result<(), RegionTooShort>
-        ensures { λ r. ⌜ answered regionTold r ≡ firstFail tt (enough (announced (now (self .entry))) (now (region .entry)) ∷ []) ⌝ }
+        ensures answer { λ r. ⌜ answered regionTold r ≡ firstFail tt (enough (announced (now (self .entry))) (now (region .entry)) ∷ []) ⌝ }
     {
         if (self.capacity as usize) < region.len() {
             Ok(())

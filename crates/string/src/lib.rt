@@ -33,14 +33,14 @@ pub fn clear<S: StringView>(s: &mut S)
 
 // Whether there is no byte.
 pub fn is_empty<S: StringView>(s: &S) -> bool
-    ensures { λ r. ⌜ r ≡ eqb (length (S·StringView .seq (now (s .entry)))) 0 ⌝ }
+    ensures answer { λ r. ⌜ r ≡ eqb (length (S·StringView .seq (now (s .entry)))) 0 ⌝ }
 {
     s.len() == 0
 }
 
 // Whether no byte more fits.
 pub fn is_full<S: StringView>(s: &S) -> bool
-    ensures { λ r. ⌜ r ≡ leb (S·StringView .room (now (s .entry))) (length (S·StringView .seq (now (s .entry)))) ⌝ }
+    ensures answer { λ r. ⌜ r ≡ leb (S·StringView .room (now (s .entry))) (length (S·StringView .seq (now (s .entry)))) ⌝ }
 {
     s.len() >= s.capacity()
 }

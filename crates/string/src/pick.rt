@@ -10,7 +10,7 @@ pub trait Pick {
     ghost picked: { Self → ℕ → Bool };
 
     fn picks(&self, byte: u8) -> bool
-        ensures { λ r. ⌜ r ≡ picked (now (self .entry)) byte ⌝ };
+        ensures answer { λ r. ⌜ r ≡ picked (now (self .entry)) byte ⌝ };
 }
 
 // The bytes from `first` to `last`, both included.

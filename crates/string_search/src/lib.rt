@@ -27,7 +27,7 @@ fn stands_at<S: StringView>(s: &S, bytes: &[u8], place: usize) -> bool
 
 // The first place at which the pattern stands.
 pub fn find<S: StringView>(s: &S, bytes: &[u8]) -> Option<usize>
-    ensures { λ r. ⌜ First (Stands (S·StringView .seq (now (s .entry))) (now (bytes .entry))) r ⌝ }
+    ensures answer { λ r. ⌜ First (Stands (S·StringView .seq (now (s .entry))) (now (bytes .entry))) r ⌝ }
 {
     let len = s.len();
     let count = bytes.len();
@@ -44,7 +44,7 @@ pub fn find<S: StringView>(s: &S, bytes: &[u8]) -> Option<usize>
 
 // The last place at which the pattern stands.
 pub fn rfind<S: StringView>(s: &S, bytes: &[u8]) -> Option<usize>
-    ensures { λ r. ⌜ Last (Stands (S·StringView .seq (now (s .entry))) (now (bytes .entry))) r ⌝ }
+    ensures answer { λ r. ⌜ Last (Stands (S·StringView .seq (now (s .entry))) (now (bytes .entry))) r ⌝ }
 {
     let len = s.len();
     let count = bytes.len();
@@ -125,7 +125,7 @@ pub fn compare<S: StringView, T: StringView>(a: &S, b: &T) -> Ordering
 
 // Whether two texts are the same.
 pub fn same<S: StringView, T: StringView>(a: &S, b: &T) -> bool
-    ensures { λ r. ⌜ Decides r (S·StringView .seq (now (a .entry)) ≡ T·StringView .seq (now (b .entry))) ⌝ }
+    ensures answer { λ r. ⌜ Decides r (S·StringView .seq (now (a .entry)) ≡ T·StringView .seq (now (b .entry))) ⌝ }
 {
     a.len() == b.len() && compare(a, b).is_eq()
 }

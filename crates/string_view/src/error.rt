@@ -23,7 +23,7 @@ pub struct BufferTooShort;
 impl StringModificationError {
     // The number under which the refusal is known to crews and in files.
     pub fn number(&self) -> u8
-        ensures { λ r. ⌜ r ≡ told (now (self .entry)) .number ⌝ }
+        ensures answer { λ r. ⌜ r ≡ told (now (self .entry)) .number ⌝ }
     {
         match self {
             StringModificationError::InvalidCharacter { .. } => 2,
@@ -36,7 +36,7 @@ impl StringModificationError {
 impl RegionTooShort {
     // As `StringModificationError::number`.
     pub fn number(&self) -> u8
-        ensures { λ r. ⌜ r ≡ regionTold (now (self .entry)) .number ⌝ }
+        ensures answer { λ r. ⌜ r ≡ regionTold (now (self .entry)) .number ⌝ }
     {
         8
     }
@@ -45,7 +45,7 @@ impl RegionTooShort {
 impl BufferTooShort {
     // As `StringModificationError::number`.
     pub fn number(&self) -> u8
-        ensures { λ r. ⌜ r ≡ bufferTold (now (self .entry)) .number ⌝ }
+        ensures answer { λ r. ⌜ r ≡ bufferTold (now (self .entry)) .number ⌝ }
     {
         9
     }

@@ -31,14 +31,14 @@ pub trait StringView {
     ghost short: { (x : Self) → length (seq x) ≤ 255 };
 
     fn capacity(&self) -> usize
-        ensures { λ r. ⌜ r ≡ room (now (self .entry)) ⌝ };
+        ensures answer { λ r. ⌜ r ≡ room (now (self .entry)) ⌝ };
 
     fn len(&self) -> usize
-        ensures { λ r. ⌜ r ≡ length (seq (now (self .entry))) ⌝ };
+        ensures answer { λ r. ⌜ r ≡ length (seq (now (self .entry))) ⌝ };
 
     // The byte at a place below the length, else none.
     fn at(&self, place: usize) -> Option<u8>
-        ensures { λ r. ⌜ StandsAt (seq (now (self .entry))) place r ⌝ };
+        ensures answer { λ r. ⌜ StandsAt (seq (now (self .entry))) place r ⌝ };
 
     // Inserts the bytes at the place, if it lies within the text and they fit; else nothing changes.
     fn put(&mut self, place: usize, bytes: &[u8]) -> bool

@@ -17,5 +17,5 @@ returns g c =
     let l = length-push xs 0 in
     record {
       answer = grind (arith, tells);
-      cells = closed-by xs (c .args .buffer .now) _ (c .len-len .result) 0 (c .len-len .ensures) (omega arith) (c .copy-text .ensures);
+      cells = closed-by xs (c .args .buffer .now) _ (c .len-len .result) 0 (c .len-len .ensures .answer) (omega arith) (c .copy-text .ensures);
     }

@@ -7,8 +7,8 @@ pub loop-i-again : need.loop-i-again
 loop-i-again g c =
     let xs = g .S·StringView .seq (c .args .s .now) in
     elim (c .match-at .came) [
-      | in-Some w ↦ rw (w .buffer-is) (copied-more xs (c .args .buffer .now) (c .loop-i .buffer) (c .loop-i .i) _ (omega arith) (omega arith) (w .in-Some .ensures tt .1) (c .loop-i .inv))
-      | in-rest w ↦ absurd (omega (arith, w .in-rest .ensures tt))
+      | in-Some w ↦ rw (w .buffer-is) (copied-more xs (c .args .buffer .now) (c .loop-i .buffer) (c .loop-i .i) _ (omega arith) (omega arith) (w .in-Some .ensures tt .answer .1) (c .loop-i .inv))
+      | in-rest w ↦ absurd (omega (arith, w .in-rest .ensures tt .answer))
     ]
 
 pub returns : need.returns

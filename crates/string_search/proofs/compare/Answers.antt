@@ -22,6 +22,6 @@ returns g c =
     let xs = g .S·StringView .seq (c .args .a .now) in
     let ys = g .T·StringView .seq (c .args .b .now) in
     record {
-      answer = c .loop-place .inv _ (compared-end _ xs ys _ _ (c .loop-place .place) (c .len-first .ensures) (c .len-second .ensures) (omega arith) (c .cmp .ensures));
+      answer = c .loop-place .inv _ (compared-end _ xs ys _ _ (c .loop-place .place) (c .len-first .ensures .answer) (c .len-second .ensures .answer) (omega arith) (c .cmp .ensures));
       total = total-order;
     }

@@ -8,4 +8,4 @@ loop-place-again g c =
     below-more _ _ (c .loop-place .inv) (λ s. both-ways (c .stands-at .result) (c .if-stands-at .left) (c .stands-at .ensures .1 s))
 
 pub returns : need.returns
-returns g c = λ q s. c .loop-place .inv q (omega (arith, s .within)) s
+returns g c = record { answer = λ q s. c .loop-place .inv q (omega (arith, s .within)) s }

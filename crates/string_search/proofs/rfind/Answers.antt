@@ -7,7 +7,7 @@ use Rattle.string_search.specs.Search.{Stands}
 use Rattle.string_search.proofs.rfind.Needs as need
 
 pub returns-then-stands-at : need.returns-then-stands-at
-returns-then-stands-at g c = (c .stands-at .ensures .0 (c .if-stands-at .taken), λ q h s. c .loop-end .inv .1 q (omega arith) s)
+returns-then-stands-at g c = record { answer = (c .stands-at .ensures .0 (c .if-stands-at .taken), λ q h s. c .loop-end .inv .1 q (omega arith) s) }
 
 pub loop-end-again : need.loop-end-again
 loop-end-again g c = (
@@ -22,4 +22,4 @@ loop-end-again g c = (
 )
 
 pub returns : need.returns
-returns g c = λ q s. c .loop-end .inv .1 q (omega arith) s
+returns g c = record { answer = λ q s. c .loop-end .inv .1 q (omega arith) s }

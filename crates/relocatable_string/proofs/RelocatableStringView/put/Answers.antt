@@ -18,7 +18,7 @@ returns c =
     let bs = c .args .bytes .now in
     let p = c .args .place in
     let n = c .len-len .result in
-    let is = c .len-len .ensures in
+    let is = c .len-len .ensures .answer in
     let same : length ys ≡ length xs = c .insert-into .kept .cells in
     let did = accepted _ _ _ _ _ _ _ _ (c .if-not-insert-into .left) (c .insert-into .ensures .answer) (c .insert-into .ensures .cells) in
     record {

@@ -17,7 +17,7 @@ returns c =
     let p = c .args .place in
     let k = c .args .count in
     let n = c .len-len .result in
-    let is = c .len-len .ensures in
+    let is = c .len-len .ensures .answer in
     let same : length ys ≡ length xs = c .remove-from .kept .cells in
     let did = accepted _ _ _ _ _ _ _ _ (c .if-not-remove-from .left) (c .remove-from .ensures .answer) (c .remove-from .ensures .cells) in
     record {

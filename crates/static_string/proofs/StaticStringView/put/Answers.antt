@@ -11,6 +11,6 @@ returns c =
     let did = accepted _ _ _ _ _ _ _ _ (c .if-not-insert-into .left) (c .insert-into .ensures .answer) (c .insert-into .ensures .cells) in
     record {
       answer = search needs;
-      text = put-text (s .«data») (c .insert-into .last .cells) (roomOf s) (s .len) (c .len-len .result) (c .len-len .ensures) (omega arith) (c .args .bytes .now) (c .args .place) (did .0) (omega (arith, did .1)) (did .2);
+      text = put-text (s .«data») (c .insert-into .last .cells) (roomOf s) (s .len) (c .len-len .result) (c .len-len .ensures .answer) (omega arith) (c .args .bytes .now) (c .args .place) (did .0) (omega (arith, did .1)) (did .2);
       frame = search needs;
     }

@@ -11,6 +11,6 @@ returns c =
     let did = accepted _ _ _ _ _ _ _ _ (c .if-not-remove-from .left) (c .remove-from .ensures .answer) (c .remove-from .ensures .cells) in
     record {
       answer = search needs;
-      text = take-text (s .«data») (c .remove-from .last .cells) (roomOf s) (s .len) (c .len-len .result) (c .len-len .ensures) (omega arith) (c .args .place) (c .args .count) (did .0) (did .2);
+      text = take-text (s .«data») (c .remove-from .last .cells) (roomOf s) (s .len) (c .len-len .result) (c .len-len .ensures .answer) (omega arith) (c .args .place) (c .args .count) (did .0) (did .2);
       frame = search needs;
     }

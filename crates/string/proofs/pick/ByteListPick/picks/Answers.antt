@@ -12,7 +12,7 @@ pub returns-then-b-byte : need.returns-then-b-byte
 returns-then-b-byte c =
     let xs = c .args .self .now .bytes .now in
     let e : eqb (getD xs (c .loop-b .b-index) 0) (c .args .byte) ≡ true = eq-eqb _ _ (c .if-b-byte .taken) in
-    sym (c .loop-b .inv ∙ at-drop-more (λ ys. listed ys (c .args .byte)) xs (c .loop-b .b-index) 0 (omega arith) ∙ or-left _ _ e)
+    record { answer = sym (c .loop-b .inv ∙ at-drop-more (λ ys. listed ys (c .args .byte)) xs (c .loop-b .b-index) 0 (omega arith) ∙ or-left _ _ e) }
 
 pub loop-b-again : need.loop-b-again
 loop-b-again c =
@@ -23,4 +23,4 @@ loop-b-again c =
 pub returns : need.returns
 returns c =
     let xs = c .args .self .now .bytes .now in
-    sym (c .loop-b .inv ∙ at-drop-all (λ ys. listed ys (c .args .byte)) xs (c .loop-b .b-index) (omega arith))
+    record { answer = sym (c .loop-b .inv ∙ at-drop-all (λ ys. listed ys (c .args .byte)) xs (c .loop-b .b-index) (omega arith)) }
