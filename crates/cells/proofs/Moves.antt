@@ -7,7 +7,7 @@ use borrow.Rule.Slice.PartMut.{putMid, postOf, post-is}
 use Rattle.std.proofs.shelf.Lists.{append-assoc, length-append, length-drop, length-take-le, take-at, drop-at, take-append-le, take-take, drop-drop}
 use Rattle.std.proofs.shelf.Parts.{between-is}
 use Rattle.string_view.specs.Sequences.{inserted, removed}
-use Rattle.cells.specs.Texts.{inserting, removing}
+use Rattle.cells.specs.Texts.{moving, inserting, removing}
 
 -- `s[a..e]` written over by ys
 put-is : (a e : ℕ) (xs ys : List ℕ) → a ≤ e → putMid a (e - a) xs ys ≡ take a xs ++ (ys ++ drop e xs)
@@ -18,7 +18,7 @@ pub moved-is : (xs ks h t : List ℕ) (from to count : ℕ)
     → from + count ≤ length xs
     → h ≡ take (from + count - from) (drop from xs)
     → t ≡ take (count - 0) (h ++ postOf 0 (count - 0) ks)
-    → putMid to (to + count - to) xs t ≡ take to xs ++ (take count (drop from xs) ++ drop (to + count) xs)
+    → putMid to (to + count - to) xs t ≡ moving from to count xs
 moved-is xs ks h t from to count f eh et =
     let hl : length h ≡ count - 0 = ap length eh ∙ length-take-le (from + count - from) (drop from xs) (omega (arith, length-drop from xs)) ∙ omega arith in
     let th : t ≡ take count (drop from xs) = et ∙ take-at h (postOf 0 (count - 0) ks) (count - 0) hl ∙ eh ∙ ap (λ n. take n (drop from xs)) (omega arith) in
@@ -34,7 +34,7 @@ module _ (xs bs : List ℕ) (n p : ℕ) (at : p ≤ n) (fit : n + length bs ≤ 
 
   -- the tail moved up, and then the bytes written into the gap
   pub inserting-is : (m t : List ℕ)
-      → m ≡ take (p + length bs) xs ++ (take (n - p) (drop p xs) ++ drop (p + length bs + (n - p)) xs)
+      → m ≡ moving p (p + length bs) (n - p) xs
       → t ≡ bs
       → putMid p (p + length bs - p) m t ≡ inserting n p bs xs
   inserting-is m t e e0 =
@@ -62,7 +62,7 @@ module _ (xs : List ℕ) (n p k : ℕ) (part : p + k ≤ n) (fit : n ≤ length 
 
   -- the tail moved down, and then zeros written behind it
   pub removing-is : (m w : List ℕ)
-      → m ≡ take p xs ++ (take (n - p - k) (drop (p + k) xs) ++ drop (p + (n - p - k)) xs)
+      → m ≡ moving (p + k) p (n - p - k) xs
       → w ≡ replicate (n - (n - k)) 0
       → putMid (n - k) (n - (n - k)) m w ≡ removing n p k xs
   removing-is m w e e0 =

@@ -1,10 +1,9 @@
 ghost use mathlib.Core.Path.{_≡_};
 ghost use mathlib.Core.Bool.{cond, _&&_};
-ghost use mathlib.Core.List.{_++_};
-ghost use Prim.Native.Nat.{min, _+_, _≤_};
+ghost use Prim.Native.Nat.{_+_, _≤_};
 ghost use lib.Dec.{leb};
-ghost use lib.ListN.{length, take, drop};
-ghost use Rattle.cells.specs.Texts.{inserting, removing, usable};
+ghost use lib.ListN.{length};
+ghost use Rattle.cells.specs.Texts.{moving, inserting, removing, usable};
 
 // A text in plain cells: its bytes are the first `len` cells, and a part of those behind it is free for more.
 
@@ -13,7 +12,7 @@ fn moved_by(cells: &mut [u8], hold: &mut [u8], from: usize, to: usize, count: us
     requires from { ⌜ from + count ≤ length (now cells) ⌝ }
     requires to { ⌜ to + count ≤ length (now cells) ⌝ }
     requires hold { ⌜ count ≤ length (now hold) ⌝ }
-    ensures { λ _. ⌜ now (cells .exit) ≡ take to (now (cells .entry)) ++ (take count (drop from (now (cells .entry))) ++ drop (to + count) (now (cells .entry))) ⌝ }
+    ensures { λ _. ⌜ now (cells .exit) ≡ moving from to count (now (cells .entry)) ⌝ }
 {
     let held = &mut hold[0..count];
     held.copy_from_slice(&cells[from..from + count]);
@@ -26,7 +25,7 @@ fn moved(cells: &mut [u8], from: usize, to: usize, count: usize)
     requires from { ⌜ from + count ≤ length (now cells) ⌝ }
     requires to { ⌜ to + count ≤ length (now cells) ⌝ }
     requires short { ⌜ count ≤ 255 ⌝ }
-    ensures { λ _. ⌜ now (cells .exit) ≡ take to (now (cells .entry)) ++ (take count (drop from (now (cells .entry))) ++ drop (to + count) (now (cells .entry))) ⌝ }
+    ensures { λ _. ⌜ now (cells .exit) ≡ moving from to count (now (cells .entry)) ⌝ }
 {
     let mut hold = [0u8; 255];
     moved_by(cells, &mut hold, from, to, count);

@@ -36,10 +36,6 @@ withinCapacity r n = (leb n r, refusal 1 [])
 abbrev pub withinText : List ℕ → ℕ → Bool × Refusal
 withinText s p = (leb p (length s), refusal 3 [])
 
--- putting b at p into the text s, within the capacity r
-abbrev pub insertion : ℕ → List ℕ → ℕ → List ℕ → List (Bool × Refusal)
-insertion r s p b = withinText s p ∷ (withinCapacity r (length s + length b) ∷ (characters b ∷ []))
-
 -- making b the whole text, within the capacity r
 abbrev pub loading : ℕ → List ℕ → List (Bool × Refusal)
 loading r b = withinCapacity r (length b) ∷ (characters b ∷ [])
@@ -47,3 +43,7 @@ loading r b = withinCapacity r (length b) ∷ (characters b ∷ [])
 -- putting b behind the text s, within the capacity r
 abbrev pub appending : ℕ → List ℕ → List ℕ → List (Bool × Refusal)
 appending r s b = withinCapacity r (length s + length b) ∷ (characters b ∷ [])
+
+-- putting b at p into the text s, within the capacity r
+abbrev pub insertion : ℕ → List ℕ → ℕ → List ℕ → List (Bool × Refusal)
+insertion r s p b = withinText s p ∷ appending r s b
