@@ -1,5 +1,6 @@
 ghost use mathlib.Core.Path.{_≡_};
-ghost use lib.ListN.{take};
+ghost use Prim.Native.Nat.{_≤_};
+ghost use lib.ListN.{length, take};
 ghost use Rattle.string_view.specs.Places.{before, FirstAt};
 ghost use Rattle.string_bytes.specs.Terminated.{isNul};
 
@@ -7,6 +8,7 @@ ghost use Rattle.string_bytes.specs.Terminated.{isNul};
 pub fn strnlen(bytes: &[u8], len: usize) -> usize
     ensures place { λ r. ⌜ r ≡ before isNul (take len (now (bytes .entry))) ⌝ }
     ensures first { λ r. ⌜ FirstAt isNul (take len (now (bytes .entry))) r ⌝ }
+    ensures bound { λ r. ⌜ r ≤ length (now (bytes .entry)) ⌝ }
 {
     let end = len.min(bytes.len());
     for i in 0..end {

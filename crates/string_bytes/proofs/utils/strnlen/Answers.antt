@@ -14,7 +14,7 @@ returns-then-bytes-i-eq0 c =
     let i = c .loop-i .i in
     let e : isNul (getD xs i 0) ≡ true = ap isNul (getD-take (c .args .len) (c .args .bytes .now) i 0 (omega arith)) ∙ eq-eqb _ _ (c .if-bytes-i-eq0 .taken) in
     let p = before-here isNul xs i (c .loop-i .inv) (omega (arith, length-take (c .args .len) (c .args .bytes .now))) e in
-    record { place = p; first = first-at isNul xs i p }
+    record { place = p; first = first-at isNul xs i p; bound = omega arith }
 
 pub loop-i-again : need.loop-i-again
 loop-i-again c =
@@ -28,4 +28,4 @@ returns c =
     let xs = take (c .args .len) (c .args .bytes .now) in
     let n : c .min-end .result ≡ c .loop-i .i = omega arith in
     let p = n ∙ before-all isNul xs (c .loop-i .i) (c .loop-i .inv) (omega (arith, length-take (c .args .len) (c .args .bytes .now))) in
-    record { place = p; first = first-at isNul xs (c .min-end .result) p }
+    record { place = p; first = first-at isNul xs (c .min-end .result) p; bound = omega arith }
