@@ -1,10 +1,10 @@
 use mathlib.Core.Path.{_≡_, sym, _∙_, ap}
 use mathlib.Core.Bool.{Bool, true, cond, _&&_}
 use mathlib.Core.List.{List, _++_}
-use Prim.Native.Nat.{ℕ, _+_, _-_, _≤_}
+use Prim.Native.Nat.{ℕ, min, _+_, _-_, _≤_}
 use native.Mathlib.Omega.{arith}
 use lib.Dec.{leb}
-use lib.ListN.{length, take, drop, replicate}
+use lib.ListN.{length, take, drop, replicate, length-take}
 use Rattle.std.proofs.shelf.Lists.{append-assoc, length-replicate, take-at, drop-at, drop-append-le, drop-drop, drop-replicate, replicate-append-replicate}
 use Rattle.std.proofs.shelf.Tests.{and-parts, leb-true, cond-true}
 use Rattle.string_view.specs.Sequences.{inserted, removed}
@@ -62,6 +62,21 @@ module _ (xs ys : List ℕ) (n p k u : ℕ) (part : p + k ≤ n) (in-use : n ≤
       ∙ ap (λ q. q ++ drop u xs) (replicate-append-replicate k (u - n) 0)
       ∙ ap (λ q. replicate q 0 ++ drop u xs) (omega arith)
       ∙ ap (λ q. replicate (u - (n - k)) 0 ++ q) (sym removing-beyond)
+
+-- a string of the capacity r over the cells xs, whose text is known to be n long
+module _ (xs ys : List ℕ) (r len n : ℕ) (is : n ≡ length (take (min len r) xs)) (within : r ≤ length xs) where
+  pub length-is : n ≡ min len r
+  length-is = omega (arith, is ∙ length-take (min len r) xs)
+
+  pub put-text : (bs : List ℕ) (p : ℕ) → p ≤ n → n + length bs ≤ r → ys ≡ inserting n p bs xs → take (min (n + length bs) r) ys ≡ inserted p bs (take (min len r) xs)
+  put-text bs p at fit e =
+      let m : min (n + length bs) r ≡ n + length bs = omega arith in
+      ap (λ k. take k ys) m ∙ inserting-text xs ys bs n p r at fit within e ∙ ap (λ k. inserted p bs (take k xs)) length-is
+
+  pub take-text : (p k : ℕ) → p + k ≤ n → ys ≡ removing n p k xs → take (min (n - k) r) ys ≡ removed p k (take (min len r) xs)
+  take-text p k part e =
+      let m : min (n - k) r ≡ n - k = omega (arith, length-is) in
+      ap (λ j. take j ys) m ∙ removing-text xs ys n p k r part (omega (arith, length-is)) within e ∙ ap (λ j. removed p k (take j xs)) length-is
 
 -- what an accepted call tells: that its two tests passed, and the cells after it
 pub accepted : (r : Bool) (a b c d : ℕ) (xs ys zs : List ℕ) → r ≡ true → r ≡ (leb a b && leb c d) → ys ≡ cond r zs xs → (a ≤ b) × (c ≤ d) × (ys ≡ zs)

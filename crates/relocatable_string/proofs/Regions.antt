@@ -1,6 +1,6 @@
 use mathlib.Core.Path.{_≡_, refl, sym, _∙_, ap}
 use mathlib.Core.List.{List, [], _++_}
-use Prim.Native.Nat.{ℕ, min, _+_, _-_, _≤_, _<_}
+use Prim.Native.Nat.{ℕ, min, _+_, _-_, _≤_}
 use native.Mathlib.Omega.{arith}
 use lib.Dec.{ltb}
 use lib.ListN.{length, take, drop, replicate, length-take, take-append-drop}
@@ -10,7 +10,8 @@ use Rattle.std.proofs.shelf.Tests.{cond-true, cond-false, lt-ltb, le-ltb}
 use Rattle.std.proofs.shelf.Ways.{tells}
 use Rattle.string_view.specs.Sequences.{inserted, removed}
 use Rattle.cells.specs.Texts.{inserting, removing, Zeros}
-use Rattle.cells.proofs.Texts.{inserting-text, inserting-beyond, inserting-zeros, removing-text, removing-beyond, removing-zeros}
+use Rattle.cells.proofs.Texts as texts
+use Rattle.cells.proofs.Texts.{inserting-beyond, inserting-zeros, removing-beyond, removing-zeros}
 use Rattle.relocatable_string.specs.Region.{used, roomIn, textIn, closedIn, wiped, laidOut}
 
 used-lent : (c n : ℕ) → used c n ≤ n
@@ -21,8 +22,8 @@ zeros-at xs u u′ n n′ p q z = rw (p, q) z
 
 -- a string of the announced capacity c in the region xs, whose text is known to be n long, and the region ys after a call
 module _ (xs ys : List ℕ) (c len n : ℕ) (is : n ≡ length (textIn c len xs)) (same : length ys ≡ length xs) where
-  pub n-is : n ≡ min len (roomIn c (length xs))
-  n-is = omega (arith, is ∙ length-take (min len (roomIn c (length xs))) xs, used-lent c (length xs))
+  room-lent : roomIn c (length xs) ≤ length xs
+  room-lent = omega (arith, used-lent c (length xs))
 
   used-kept : used c (length ys) ≡ used c (length xs)
   used-kept = ap (used c) same
@@ -31,18 +32,13 @@ module _ (xs ys : List ℕ) (c len n : ℕ) (is : n ≡ length (textIn c len xs)
   room-kept = ap (roomIn c) same
 
   -- a text of m bytes after the call
-  min-is : (m : ℕ) → m ≤ roomIn c (length xs) → min m (roomIn c (length ys)) ≡ m
-  min-is m h = omega (arith, room-kept)
-
   long : (m : ℕ) → m ≤ roomIn c (length xs) → length (textIn c m ys) ≡ m
   long m h = length-take (min m (roomIn c (length ys))) ys ∙ omega (arith, room-kept, used-lent c (length xs))
 
   module _ (bs : List ℕ) (p : ℕ) (at : p ≤ n) (fit : n + length bs ≤ roomIn c (length xs)) (e : ys ≡ inserting n p bs xs) where
     pub put-text : textIn c (n + length bs) ys ≡ inserted p bs (textIn c len xs)
     put-text =
-        ap (λ k. take k ys) (min-is (n + length bs) fit)
-        ∙ inserting-text xs ys bs n p (used c (length xs)) at (omega arith) (used-lent c (length xs)) e
-        ∙ ap (λ k. inserted p bs (take k xs)) n-is
+        ap (λ r. take (min (n + length bs) r) ys) room-kept ∙ texts.put-text xs ys (roomIn c (length xs)) len n is room-lent bs p at fit e
 
     pub put-beyond : drop (used c (length ys)) ys ≡ drop (used c (length xs)) xs
     put-beyond = ap (λ u. drop u ys) used-kept ∙ inserting-beyond xs ys bs n p (used c (length xs)) at (omega arith) (used-lent c (length xs)) e
@@ -54,13 +50,11 @@ module _ (xs ys : List ℕ) (c len n : ℕ) (is : n ≡ length (textIn c len xs)
 
   module _ (p k : ℕ) (part : p + k ≤ n) (e : ys ≡ removing n p k xs) where
     within : n ≤ roomIn c (length xs)
-    within = omega (arith, n-is)
+    within = omega (arith, texts.length-is xs ys (roomIn c (length xs)) len n is room-lent)
 
     pub take-text : textIn c (n - k) ys ≡ removed p k (textIn c len xs)
     take-text =
-        ap (λ j. take j ys) (min-is (n - k) (omega (arith, within)))
-        ∙ removing-text xs ys n p k (used c (length xs)) part (omega (arith, within)) (used-lent c (length xs)) e
-        ∙ ap (λ j. removed p k (take j xs)) n-is
+        ap (λ r. take (min (n - k) r) ys) room-kept ∙ texts.take-text xs ys (roomIn c (length xs)) len n is room-lent p k part e
 
     pub take-beyond : drop (used c (length ys)) ys ≡ drop (used c (length xs)) xs
     take-beyond = ap (λ u. drop u ys) used-kept ∙ removing-beyond xs ys n p k (used c (length xs)) part (omega (arith, within)) (used-lent c (length xs)) e

@@ -2,7 +2,7 @@ ghost use mathlib.Core.Path.{_≡_};
 ghost use mathlib.Core.Bool.{cond};
 ghost use mathlib.Core.List.{[], _∷_, _++_};
 ghost use Prim.Native.Nat.{_≤_};
-ghost use lib.ListN.{length, take, drop};
+ghost use lib.ListN.{length, take};
 ghost use Rattle.std.specs.Results.{isOk};
 ghost use Rattle.string_view.specs.Checks.{firstFail, answered, characters, loading};
 ghost use Rattle.string_view.specs.Refusals.{told, bufferTold};

@@ -1,9 +1,7 @@
 use mathlib.Core.Path.{_≡_, sym, _∙_, ap}
-use mathlib.Core.Bool.{Bool, cond}
-use mathlib.Core.List.{List, [], _++_}
+use mathlib.Core.List.{List, _++_}
 use Prim.Native.Nat.{ℕ, _+_, _-_, _≤_}
 use native.Mathlib.Omega.{arith}
-use lib.Dec.{leb}
 use lib.ListN.{length, getD, take, drop}
 use Rattle.std.proofs.shelf.Fronts.{front-reads, front-fits, front-from-reads, end-rest, end-from-reads}
 use Rattle.std.proofs.shelf.Lists.{getD-drop, length-append}

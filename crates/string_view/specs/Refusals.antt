@@ -13,13 +13,16 @@ pub record Refusal : Type 0 where
 abbrev pub refusal : ℕ → List ℕ → Refusal
 refusal n vs = record { number = n; carries = vs }
 
+-- of an insertion or a load
 abbrev pub told : StringModificationError → Refusal
 told (InvalidCharacter place) = refusal 2 (place ∷ [])
 told InsertWouldExceedCapacity = refusal 1 []
 told PositionOutOfRange = refusal 3 []
 
+-- of a region
 abbrev pub regionTold : RegionTooShort → Refusal
 regionTold e = refusal 8 []
 
+-- of a buffer
 abbrev pub bufferTold : BufferTooShort → Refusal
 bufferTold e = refusal 9 []

@@ -1,8 +1,7 @@
 use borrow.Author.Needs.{needs}
 use native.Mathlib.Omega.{arith}
-use Rattle.cells.proofs.Texts.{accepted}
+use Rattle.cells.proofs.Texts.{accepted, put-text}
 use Rattle.static_string.specs.Fixed.{roomOf}
-use Rattle.static_string.proofs.Edits.{put-text}
 use Rattle.static_string.proofs.StaticStringView.put.Needs as need
 
 pub returns : need.returns
