@@ -1,3 +1,5 @@
+#![tactic(auto)]
+
 ghost use Rattle.std.specs.Prelude.{◌≡◌, ◌+◌, ◌≤◌, ◌&&◌, length, if◌then◌else◌, nat_le};
 ghost use Rattle.cells.specs.Texts.{moving, inserting, removing, usable};
 

@@ -1,3 +1,5 @@
+#![tactic(auto)]
+
 ghost use Rattle.std.specs.Prelude.{◌≡◌, ◌||◌, Decides, refl};
 ghost use Rattle.std.proofs.lemmas.Bool.{or_left};
 ghost use Rattle.rules.specs.Sets.{some_outside, strange_outside};

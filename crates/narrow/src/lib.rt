@@ -1,3 +1,5 @@
+#![tactic(auto)]
+
 ghost use Rattle.std.specs.Prelude.{◌≡◌, ◌∷◌, min};
 ghost use Rattle.narrow.specs.Bounds.{min_small};
 

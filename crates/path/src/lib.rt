@@ -1,3 +1,5 @@
+#![tactic(auto)]
+
 ghost use Rattle.std.specs.Prelude.{◌≡◌, ℕ, false, ◌||◌, List, [], ◌∷◌, length, is_ok, if◌then◌else◌, codes, Decides};
 ghost use Rattle.std.proofs.lemmas.Bool.{or_left};
 ghost use Rattle.string_view.specs.Checks.{first_fail, answered};

@@ -1,5 +1,6 @@
 // The day of one sail mark: typed in the tent, corrected on the start line, corrected at the finish, and written
 // into its slot of the series file. Every correction is told, kept or refused, with the mark as it then stands.
+#![tactic(auto)]
 
 use anyhow::anyhow;
 use narrow::Narrow;

@@ -1,3 +1,5 @@
+#![tactic(auto)]
+
 ghost use Rattle.std.specs.Prelude.{◌≡◌, ◌+◌, min, [], ◌∷◌, length, drop, if◌then◌else◌};
 ghost use Rattle.cells.specs.Texts.{inserting, removing};
 ghost use Rattle.string_view.specs.Checks.{first_fail, answered};

@@ -1,3 +1,5 @@
+#![tactic(auto)]
+
 ghost use Rattle.std.specs.Prelude.{◌≡◌, ℕ, ◌<◌, ◌≤◌, Bool, true, false, List, [], ◌∷◌, length, is_ok, if◌then◌else◌, slice_index};
 ghost use Rattle.string_view.specs.Characters.{is_character};
 ghost use Rattle.string_view.specs.Checks.{first_fail, answered};

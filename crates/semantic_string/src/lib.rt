@@ -1,3 +1,5 @@
+#![tactic(auto)]
+
 ghost use Rattle.std.specs.Prelude.{◌≡◌, ◌-◌, [], ◌∷◌, ◌++◌, length, is_ok, if◌then◌else◌, ◌==◌, nat_le};
 ghost use Rattle.string_view.specs.Checks.{first_fail, answered};
 ghost use Rattle.string_view.specs.Refusals.{buffer_told};

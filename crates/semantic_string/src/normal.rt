@@ -20,9 +20,9 @@ use string_view::error::BufferTooShort;
 impl<S: StringView, R: NormalForm> SemanticString<S, R> {
     // Writes the normal form into the first cells of the buffer, and answers how many bytes it is.
     pub fn normalize(&self, buffer: &mut [u8]) -> Result<usize, BufferTooShort>
-        ensures answer { answered buffer_told result ≡ first_fail (length (normal_of S.StringView R.NormalForm self.now)) (enough (normal_of S.StringView R.NormalForm self.now) buffer.old ∷ []) }
-        ensures cells { buffer.new ≡ (if is_ok result then written (normal_of S.StringView R.NormalForm self.now) buffer.old else buffer.old) }
-        ensures valid { Sound S.StringView R.SemanticStringAccessor self.now → R.SemanticStringAccessor.bad_content self.now.rule (normal_of S.StringView R.NormalForm self.now) ≡ false }
+        ensures answer { answered buffer_told result ≡ first_fail (length (normal_of S.StringView R.NormalForm.own self.now)) (enough (normal_of S.StringView R.NormalForm.own self.now) buffer.old ∷ []) }
+        ensures cells { buffer.new ≡ (if is_ok result then written (normal_of S.StringView R.NormalForm.own self.now) buffer.old else buffer.old) }
+        ensures valid { Sound S.StringView R.SemanticStringAccessor self.now → R.SemanticStringAccessor.bad_content self.now.rule (normal_of S.StringView R.NormalForm.own self.now) ≡ false }
     {
         let mut text = [0u8; 255];
         let len = self.storage.len();
@@ -32,7 +32,7 @@ impl<S: StringView, R: NormalForm> SemanticString<S, R> {
 
     // The normal form, as a string of its own.
     fn normalized(&self) -> StaticString
-        ensures { fixed.text_of result ≡ normal_of S.StringView R.NormalForm self.now }
+        ensures { fixed.text_of result ≡ normal_of S.StringView R.NormalForm.own self.now }
     {
         let mut normal = [0u8; 255];
         let mut copy = StaticString::new(255);
@@ -44,14 +44,14 @@ impl<S: StringView, R: NormalForm> SemanticString<S, R> {
 
     // Whether two texts have the same normal form.
     pub fn same<T: StringView>(&self, other: &SemanticString<T, R>) -> bool
-        ensures answer { Decides result (normal_of S.StringView R.NormalForm self.now ≡ normal_of T.StringView R.NormalForm other.now) }
+        ensures answer { Decides result (normal_of S.StringView R.NormalForm.own self.now ≡ normal_of T.StringView R.NormalForm.own other.now) }
     {
         same(&self.normalized(), &other.normalized())
     }
 
     // The order of two texts by the bytes of their normal forms. A proper start comes first.
     pub fn compare<T: StringView>(&self, other: &SemanticString<T, R>) -> Ordering
-        ensures answer { Compared (normal_of S.StringView R.NormalForm self.now) (normal_of T.StringView R.NormalForm other.now) result }
+        ensures answer { Compared (normal_of S.StringView R.NormalForm.own self.now) (normal_of T.StringView R.NormalForm.own other.now) result }
         ensures total { TotalOrder }
     {
         compare(&self.normalized(), &other.normalized())

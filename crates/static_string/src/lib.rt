@@ -1,3 +1,5 @@
+#![tactic(auto)]
+
 ghost use Rattle.std.specs.Prelude.{◌≡◌, min, []};
 ghost use Rattle.static_string.specs.Fixed.{room_of, text_of, is_small, is_short};
 

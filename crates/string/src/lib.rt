@@ -1,3 +1,5 @@
+#![tactic(auto)]
+
 ghost use Rattle.std.specs.Prelude.{◌≡◌, ◌-◌, not, [], ◌∷◌, ◌++◌, length, take, is_ok, if◌then◌else◌, filter, ◌==◌, nat_le, nat_lt};
 ghost use Rattle.string_view.specs.Characters.{is_character};
 ghost use Rattle.string_view.specs.Checks.{first_fail, answered, first_bad, insertion, appending};

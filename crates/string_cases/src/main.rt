@@ -1,5 +1,6 @@
 // Reads calls, a line each, sends them to one string on each kind of storage, all of capacity 8 and empty at
 // first, and writes what they answer and the text that they then hold. The storages have to agree.
+#![tactic(auto)]
 
 use narrow::Narrow;
 use relocatable_string::RelocatableString;

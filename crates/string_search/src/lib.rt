@@ -1,3 +1,5 @@
+#![tactic(auto)]
+
 ghost use Rattle.std.specs.Prelude.{◌≡◌, ◌+◌, ◌<◌, ◌≤◌, length, Decides, slice_index};
 ghost use Rattle.std.specs.Ordering.{MatchOrdering};
 ghost use Rattle.string_view.specs.Views.{Frame};

@@ -1,5 +1,6 @@
 // Examples of what a script of calls cannot show: capacities, regions, buffers, numbers. What they should give is
 // worked out by hand.
+#![tactic(auto)]
 
 use static_string::StaticString;
 use string_view::StringView;

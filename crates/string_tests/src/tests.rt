@@ -46,9 +46,9 @@ fn narrowed_below_the_text(rt: HostRuntime) {
 fn cells_of_a_region(rt: HostRuntime) {
     let mut region = [7u8; 8];
     let mut s = RelocatableString::new_uninit(4).init(&mut region);
-    assert!(rt; s.cells() == [0, 0, 0, 0, 0, 7, 7, 7]);
+    assert!(rt; s.cells() == [0, 0, 0, 0, 0, 7, 7, 7].as_slice());
     assert_eq!(rt; s.put(0, b"abcd"), true);
-    assert!(rt; s.cells() == [b'a', b'b', b'c', b'd', 0, 7, 7, 7]);
+    assert!(rt; s.cells() == [b'a', b'b', b'c', b'd', 0, 7, 7, 7].as_slice());
     assert_eq!(rt; s.take(1, 2), true);
     assert!(rt; region == [b'a', b'd', 0, 0, 0, 7, 7, 7]);
 }

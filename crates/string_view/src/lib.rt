@@ -1,3 +1,5 @@
+#![tactic(auto)]
+
 ghost use Rattle.std.specs.Prelude.{◌≡◌, ℕ, ◌≤◌, List, length, if◌then◌else◌};
 ghost use Rattle.string_view.specs.Sequences.{inserted, removed, insert_fits, remove_fits, StandsAt};
 ghost use Rattle.string_view.specs.Frames.{Kept};

@@ -1,4 +1,5 @@
 // Examples of rules, normal forms and checked texts. What they should give is worked out by hand.
+#![tactic(auto)]
 
 ghost use Rattle.std.specs.Prelude.{◌&&◌, ◌||◌, length, nat_lt};
 ghost use Rattle.std.proofs.lemmas.Bool.{and_left, or_left};

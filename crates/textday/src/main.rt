@@ -1,6 +1,7 @@
 // The day of one sail mark: typed in the tent, corrected on the start line, corrected at the finish, and written
 // into its slot of the series file; and of the results file's name. Every correction is told, kept or refused, with
 // the text as it then stands.
+#![tactic(auto)]
 
 use anyhow::anyhow;
 use file_name::FileName;

@@ -6,5 +6,5 @@ pub returns : goal.returns
 returns c =
     record {
       answer = search rules;
-      cells = inserting_is c.args.cells.now c.args.bytes.now c.args.len c.args.place (omega arith) (omega arith) _ _ c.moved.ensures c.copy-from-slice.ensures.after;
+      cells = inserting_is c.args.cells.now c.args.bytes.now c.args.len c.args.place (omega arith) (omega arith) _ _ c.moved.ensures c.copy_from_slice.ensures.after;
     }

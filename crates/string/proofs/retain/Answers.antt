@@ -46,4 +46,4 @@ loop-end-preserved g c =
     let xs = v.seq c.args.s.now in
     let ys = v.seq c.loop-end.s in
     let k = again test xs ys c.loop-end.end (omega arith) c.loop-end.invariant.0 in
-    absurd (omega (arith, stands test xs (c.loop-end.end - 1) ys k, c.in-default.ensures.answer))
+    absurd (omega (arith, stands test xs (c.loop-end.end - 1) ys k, c.in_default.ensures.answer))

@@ -15,5 +15,5 @@ returns g c =
     let l = length_push xs 0 in
     record {
       answer = grind (arith, nat_tests);
-      cells = closed_by xs c.args.buffer.now _ c.len-len.result 0 c.len-len.ensures.answer (omega arith) c.copy-text.ensures;
+      cells = closed_by xs c.args.buffer.now _ c.len-len.result 0 c.len-len.ensures.answer (omega arith) c.copy_text.ensures;
     }

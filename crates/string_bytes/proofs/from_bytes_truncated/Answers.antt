@@ -9,7 +9,7 @@ returns g c =
     let r = v.room c.args.s.now in
     let e = cut_within xs c.min-end.result r (omega arith) in
     record {
-      answer = c.from-bytes.ensures.answer ∙ loading_cut r xs _ e;
-      text = c.from-bytes.ensures.text ∙ ap (λ z. cond (is_ok c.from-bytes.result) z (v.seq c.args.s.now)) e;
-      frame = c.from-bytes.ensures.frame;
+      answer = c.from_bytes.ensures.answer ∙ loading_cut r xs _ e;
+      text = c.from_bytes.ensures.text ∙ ap (λ z. cond (is_ok c.from_bytes.result) z (v.seq c.args.s.now)) e;
+      frame = c.from_bytes.ensures.frame;
     }

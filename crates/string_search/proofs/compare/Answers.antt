@@ -1,13 +1,14 @@
 use Rattle.std.proofs.Common.{arith}
+use Rattle.std.proofs.lemmas.Cmp.{ranked}
 use Rattle.string_search.proofs.Order.{total_order, compared_more, compared_here, compared_end}
 use Rattle.string_search.proofs.compare.Goals as goal
 
-pub returns-in-default : goal.returns-in-default
-returns-in-default g c =
+pub returns-in_default : goal.returns-in_default
+returns-in_default g c =
     let xs = g.S.StringView.seq c.args.a.now in
     let ys = g.T.StringView.seq c.args.b.now in
     record {
-      answer = c.loop-place.invariant _ (compared_here xs ys c.loop-place.place (omega arith) (omega arith) _ c.in-default.not-Equal c.compare-at.ensures);
+      answer = c.loop-place.invariant _ (compared_here xs ys c.loop-place.place (omega arith) (omega arith) _ c.in_default.not-Equal c.compare_at.ensures);
       total = total_order;
     }
 
@@ -22,6 +23,6 @@ returns g c =
     let xs = g.S.StringView.seq c.args.a.now in
     let ys = g.T.StringView.seq c.args.b.now in
     record {
-      answer = c.loop-place.invariant _ (compared_end _ xs ys _ _ c.loop-place.place c.len-first.ensures.answer c.len-second.ensures.answer (omega arith) c.cmp.ensures);
+      answer = c.loop-place.invariant _ (compared_end _ xs ys _ _ c.loop-place.place c.len-first.ensures.answer c.len-second.ensures.answer (omega arith) (ranked _ _ _ c.cmp.ensures));
       total = total_order;
     }

@@ -4,7 +4,7 @@ use Rattle.string_search.proofs.find.Goals as goal
 
 pub loop-place-preserved : goal.loop-place-preserved
 loop-place-preserved g c =
-    below_more _ _ c.loop-place.invariant (λ s. both_ways c.stands-at.result c.if-stands-at.false (c.stands-at.ensures.1 s))
+    below_more _ _ c.loop-place.invariant (λ s. both_ways c.stands_at.result c.if-stands_at.false (c.stands_at.ensures.1 s))
 
 pub returns : goal.returns
 returns g c = record { answer = λ q s. c.loop-place.invariant q (omega (arith, s.within)) s }

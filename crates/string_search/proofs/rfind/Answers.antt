@@ -3,8 +3,8 @@ use Rattle.std.proofs.lemmas.Bool.{cases_lt, both_ways}
 use Rattle.string_search.specs.Search.{Stands}
 use Rattle.string_search.proofs.rfind.Goals as goal
 
-pub returns-then-stands-at : goal.returns-then-stands-at
-returns-then-stands-at g c = record { answer = (c.stands-at.ensures.0 c.if-stands-at.true, λ q h s. c.loop-end.invariant.1 q (omega arith) s) }
+pub returns-then-stands_at : goal.returns-then-stands_at
+returns-then-stands_at g c = record { answer = (c.stands_at.ensures.0 c.if-stands_at.true, λ q h s. c.loop-end.invariant.1 q (omega arith) s) }
 
 pub loop-end-preserved : goal.loop-end-preserved
 loop-end-preserved g c = (
@@ -14,7 +14,7 @@ loop-end-preserved g c = (
         | inl l ↦ c.loop-end.invariant.1 q (omega arith) s
         | inr l ↦
             let e : q ≡ c.loop-end.end - 1 = omega arith in
-            both_ways c.stands-at.result c.if-stands-at.false (c.stands-at.ensures.1 (subst (Stands (g.S.StringView.seq c.args.s.now) c.args.bytes.now) e s))
+            both_ways c.stands_at.result c.if-stands_at.false (c.stands_at.ensures.1 (subst (Stands (g.S.StringView.seq c.args.s.now) c.args.bytes.now) e s))
       ],
 )
 

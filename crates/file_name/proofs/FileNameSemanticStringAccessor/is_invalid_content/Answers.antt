@@ -5,14 +5,14 @@ use Rattle.file_name.specs.Names.{is_portable, is_no_name}
 use Rattle.file_name.proofs.Names.{invalid_decides}
 use Rattle.file_name.proofs.FileNameSemanticStringAccessor.is_invalid_content.Goals as goal
 
-pub returns-then-does-contain-invalid-characters : goal.returns-then-does-contain-invalid-characters
-returns-then-does-contain-invalid-characters c =
+pub returns-then-does_contain_invalid_characters : goal.returns-then-does_contain_invalid_characters
+returns-then-does_contain_invalid_characters c =
     let s = c.args.string.now in
-    let a : c.does-contain-invalid-characters.result ≡ (some_outside is_portable s || is_no_name s) = search rules in
+    let a : c.does_contain_invalid_characters.result ≡ (some_outside is_portable s || is_no_name s) = search rules in
     record { answer = a; meaning = Decides-at _ _ a (invalid_decides s) }
 
-pub returns-else-does-contain-invalid-characters : goal.returns-else-does-contain-invalid-characters
-returns-else-does-contain-invalid-characters c =
+pub returns-else-does_contain_invalid_characters : goal.returns-else-does_contain_invalid_characters
+returns-else-does_contain_invalid_characters c =
     let s = c.args.string.now in
-    let a : c.is-no-name.result ≡ (some_outside is_portable s || is_no_name s) = search rules in
+    let a : c.is_no_name.result ≡ (some_outside is_portable s || is_no_name s) = search rules in
     record { answer = a; meaning = Decides-at _ _ a (invalid_decides s) }

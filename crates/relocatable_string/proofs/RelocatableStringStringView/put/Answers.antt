@@ -9,13 +9,13 @@ pub returns : goal.returns
 returns c =
     let s = c.args.self.now in
     let xs = s.region.now in
-    let ys = c.insert-into.new.cells in
+    let ys = c.insert_into.new.cells in
     let bs = c.args.bytes.now in
     let p = c.args.place in
     let n = c.len-len.result in
     let is = c.len-len.ensures.answer in
-    let same : length ys ≡ length xs = c.insert-into.auto.cells in
-    let did = accepted _ _ _ _ _ _ _ _ c.if-not-insert-into.false c.insert-into.ensures.answer c.insert-into.ensures.cells in
+    let same : length ys ≡ length xs = c.insert_into.auto.cells in
+    let did = accepted _ _ _ _ _ _ _ _ c.if-not-insert_into.false c.insert_into.ensures.answer c.insert_into.ensures.cells in
     record {
       answer = search rules;
       text = regions.put_text xs ys (announced_of s) s.len n is same bs p did.0 (omega (arith, did.1)) did.2;

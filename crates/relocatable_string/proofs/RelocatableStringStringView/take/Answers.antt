@@ -9,13 +9,13 @@ pub returns : goal.returns
 returns c =
     let s = c.args.self.now in
     let xs = s.region.now in
-    let ys = c.remove-from.new.cells in
+    let ys = c.remove_from.new.cells in
     let p = c.args.place in
     let k = c.args.count in
     let n = c.len-len.result in
     let is = c.len-len.ensures.answer in
-    let same : length ys ≡ length xs = c.remove-from.auto.cells in
-    let did = accepted _ _ _ _ _ _ _ _ c.if-not-remove-from.false c.remove-from.ensures.answer c.remove-from.ensures.cells in
+    let same : length ys ≡ length xs = c.remove_from.auto.cells in
+    let did = accepted _ _ _ _ _ _ _ _ c.if-not-remove_from.false c.remove_from.ensures.answer c.remove_from.ensures.cells in
     record {
       answer = search rules;
       text = regions.take_text xs ys (announced_of s) s.len n is same p k did.0 did.2;

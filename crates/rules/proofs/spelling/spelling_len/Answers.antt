@@ -3,7 +3,7 @@ use Rattle.std.proofs.lemmas.List.{at_drop_all, take_rest}
 use Rattle.rules.specs.Spellings.{spelling}
 use Rattle.rules.proofs.Spellings.{spelt_none, spelt_some}
 use Rattle.rules.proofs.spelling.spelling_len.Goals as goal
-use Rattle.rules.proofs.spelling.spelling_len.Goals.{in-Some, in-default}
+use Rattle.rules.proofs.spelling.spelling_len.Goals.{in-Some, in_default}
 
 pub loop-place-preserved : goal.loop-place-preserved
 loop-place-preserved g c =
@@ -15,8 +15,8 @@ loop-place-preserved g c =
       | in-Some w ↦
           let e = ap length (spelt_some f s i (omega arith) _ (rest ∙ sym w.in-Some.ensures.answer)) in
           (omega (arith, w.count-is, c.loop-place.invariant.0), omega (arith, w.count-is, c.loop-place.invariant.1))
-      | in-default w ↦
-          let e = ap length (spelt_none f s i (omega arith) (rest ∙ sym w.in-default.ensures.answer)) in
+      | in_default w ↦
+          let e = ap length (spelt_none f s i (omega arith) (rest ∙ sym w.in_default.ensures.answer)) in
           (omega (arith, w.count-is, c.loop-place.invariant.0), omega (arith, w.count-is, c.loop-place.invariant.1))
     ]
 

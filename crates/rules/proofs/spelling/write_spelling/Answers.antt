@@ -4,7 +4,7 @@ use Rattle.std.proofs.lemmas.Bool.Decides.{nat_tests}
 use Rattle.rules.proofs.Spellings.{written_room, written_skip, written_more, written_all}
 use Rattle.rules.proofs.spelling.write_spelling.Given as given
 use Rattle.rules.proofs.spelling.write_spelling.Goals as goal
-use Rattle.rules.proofs.spelling.write_spelling.Goals.{in-Some, in-default}
+use Rattle.rules.proofs.spelling.write_spelling.Goals.{in-Some, in_default}
 
 -- the spelling fits the buffer, so there is a cell for the next byte of it
 room : (g : given.Over) (c : goal.In-Some g) → c.loop-place.count < length c.args.buffer.now
@@ -17,8 +17,8 @@ room g c =
 pub bounds-buffer-count : goal.bounds-buffer-count
 bounds-buffer-count g c = omega (arith, room g c)
 
-pub overflow-add-count : goal.overflow-add-count
-overflow-add-count g c = let r = room g c in search rules
+pub overflow_add-count : goal.overflow_add-count
+overflow_add-count g c = let r = room g c in search rules
 
 pub loop-place-preserved : goal.loop-place-preserved
 loop-place-preserved g c =
@@ -32,7 +32,7 @@ loop-place-preserved g c =
           let e = rest ∙ sym w.in-Some.ensures.answer in
           let r = written_room f s bs i c.loop-place.count c.loop-place.buffer (omega arith) (omega arith) _ e c.loop-place.invariant in
           rw (w.count-is, w.buffer-is) (written_more f s bs i c.loop-place.count _ c.loop-place.buffer (omega arith) r e c.loop-place.invariant)
-      | in-default w ↦ rw (w.count-is, w.buffer-is) (written_skip f s bs i c.loop-place.count c.loop-place.buffer (omega arith) (rest ∙ sym w.in-default.ensures.answer) c.loop-place.invariant)
+      | in_default w ↦ rw (w.count-is, w.buffer-is) (written_skip f s bs i c.loop-place.count c.loop-place.buffer (omega arith) (rest ∙ sym w.in_default.ensures.answer) c.loop-place.invariant)
     ]
 
 pub returns : goal.returns

@@ -11,13 +11,13 @@ returns g c =
     let s = v.seq c.args.self.now.storage in
     let p = c.args.idx in
     let b = c.args.bytes.now in
-    let trial = c.trial-of-trial.result in
-    let same = c.trial-of-trial.ensures in
+    let trial = c.trial_of-trial.result in
+    let same = c.trial_of-trial.ensures in
     let k =
     kept_insertion v g.R.SemanticStringAccessor c.args.self.now p b _ c.put.result c.put.new.self
-    (c.in-default.ensures.answer ∙ ap (λ r. first_fail tt (insertion r (text_of trial.inner) p b)) same.room ∙ ap (λ z. first_fail tt (insertion (v.room c.args.self.now.storage) z p b)) same.text)
-    c.in-ok-check.ensures
-    (c.in-default.ensures.text ∙ ap (inserted p b) same.text)
+    (c.in_default.ensures.answer ∙ ap (λ r. first_fail tt (insertion r (text_of trial.inner) p b)) same.room ∙ ap (λ z. first_fail tt (insertion (v.room c.args.self.now.storage) z p b)) same.text)
+    c.in_ok-check.ensures
+    (c.in_default.ensures.text ∙ ap (inserted p b) same.text)
     c.put.ensures.answer
     c.put.ensures.text
     c.put.ensures.frame in

@@ -9,8 +9,8 @@ returns g c =
     let s = g.S.StringView.seq c.args.self.now.storage in
     let picked = g.P.Pick.picked c.args.pick.now in
     let k =
-    kept g.S.StringView g.R.SemanticStringAccessor c.args.self.now (retention picked s) tt _ c.retain-2.new.s c.in-ok-check.ensures
-    (ap (outcome tt) (c.retain.ensures.text ∙ ap (filter (λ b. not (picked b))) c.trial-of-trial.ensures.text))
+    kept g.S.StringView g.R.SemanticStringAccessor c.args.self.now (retention picked s) tt _ c.retain-2.new.s c.in_ok-check.ensures
+    (ap (outcome tt) (c.retain.ensures.text ∙ ap (filter (λ b. not (picked b))) c.trial_of-trial.ensures.text))
     c.retain-2.ensures.text
     c.retain-2.ensures.frame
     (omega (arith, length-filter_both (λ b. not (picked b)) (λ b. not (not (picked b))) (λ _. refl) s)) in

@@ -9,7 +9,7 @@ returns g c =
     let s = v.seq c.args.storage.now in
     let short = v.short c.args.storage.now in
     let small = v.small c.args.storage.now in
-    let read = read_back c.as-bytes.result s _ _ c.len-len.result short c.as-bytes.ensures.answer c.as-bytes.ensures.cells c.len-len.ensures.answer in
+    let read = read_back c.as_bytes.result s _ _ c.len-len.result short c.as_bytes.ensures.answer c.as_bytes.ensures.cells c.len-len.ensures.answer in
     let text = put_into_empty c.put.result (room_of c.new-copy.result) (text_of c.new-copy.result) _ (text_of c.put.new.self) c.new-copy.ensures.text (omega (arith, c.new-copy.ensures.room, ap length read)) c.put.ensures.answer c.put.ensures.text in
     record {
       room = omega (arith, c.new.ensures.n, c.capacity.ensures.answer, ap room_of c.new.ensures.inner, c.put.ensures.frame.room, c.new-copy.ensures.room);
