@@ -3,13 +3,13 @@ use mathlib.Core.Bool.{or-false}
 use Rattle.std.proofs.ByRecursion.{All-more}
 use Rattle.std.proofs.lemmas.List.{take-append-drop, drop-drop, drop_more, take_all, get_or-drop}
 use Rattle.std.proofs.lemmas.Bool.{cases_Bool, cond-true, cond-false}
-use Rattle.std.specs.List.{AllByRecursion as All}
+use Rattle.std.specs.List.{AllByRecursion}
 use Rattle.std.specs.Str.{bytes_eq}
 use Rattle.path.specs.Pieces.{is_slash, first, later, pieces, holds}
 
 -- no byte of it is a slash
 abbrev pub Unbroken : List ℕ → Type 0
-Unbroken p = All (λ b. is_slash b ≡ false) p
+Unbroken p = AllByRecursion (λ b. is_slash b ≡ false) p
 
 pub pieces_slash : (x : ℕ) (xs : List ℕ) → is_slash x ≡ true → pieces (x ∷ xs) ≡ [] ∷ pieces xs
 pieces_slash x xs e = cond-true _ _ _ e

@@ -1,7 +1,7 @@
 use Rattle.std.specs.Prelude.{◌≡◌, ℕ, ◌<◌, Bool, false, cond, ◌||◌, ◌⊎◌, List, [], ◌∷◌, ◌++◌, length, codes, ◌==◌, slice_index, refl}
 use Rattle.std.proofs.Common.{sym, ◌∙◌, ap}
 use Rattle.std.proofs.lemmas.Bool.{ne_eqb, both_ways}
-use Rattle.std.specs.List.{AllByRecursion as All}
+use Rattle.std.specs.List.{AllByRecursion}
 use Rattle.std.specs.Str.{bytes_eq}
 use Rattle.string_view.specs.Characters.{is_character}
 use Rattle.rules.specs.Sets.{WithinCharacters}
@@ -21,7 +21,7 @@ pub record Piece (s p : List ℕ) : Type 0 where
   pub front : List ℕ
   pub rest : List ℕ
   pub whole : s ≡ front ++ (p ++ rest)
-  pub unbroken : All (λ b. is_slash b ≡ false) p
+  pub unbroken : AllByRecursion (λ b. is_slash b ≡ false) p
   pub before : (front ≡ []) ⊎ ((f : List ℕ) × (front ≡ f ++ codes "/"))
   pub behind : (rest ≡ []) ⊎ ((r : List ℕ) × (rest ≡ codes "/" ++ r))
 

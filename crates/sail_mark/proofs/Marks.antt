@@ -3,7 +3,7 @@ use Rattle.std.proofs.ByRecursion.{All-append, All-weaker, Decides-by_and}
 use Rattle.std.proofs.lemmas.List.{take-append-drop, take_at, drop_at, length-append, length-take-le}
 use Rattle.std.proofs.lemmas.Bool.{and_left, and_parts, both_ways, cases_Bool, cond-false, cond_both, eqb-true, leb-true, le-leb, not-true, not_from_true, or_from, or_left, or_right}
 use Rattle.std.proofs.lemmas.Bool.Decides.{nat_tests, Decides-and, Decides-like, Decides-not}
-use Rattle.std.specs.List.{AllByRecursion as All}
+use Rattle.std.specs.List.{AllByRecursion}
 use Rattle.std.specs.Str.{bytes_eq}
 use Rattle.rules.specs.Letters.{is_letter, is_digit}
 use Rattle.rules.specs.Sets.{some_outside}
@@ -12,7 +12,7 @@ use Rattle.sail_mark.specs.Marks.{is_blank, is_mark_character, SailMarked, behin
 
 -- every byte of s is of the set
 abbrev pub AllOf : (ℕ → Bool) → List ℕ → Type 0
-AllOf set s = All (λ b. set b ≡ true) s
+AllOf set s = AllByRecursion (λ b. set b ≡ true) s
 
 not_outside : (a c : Bool) → not (not a || c) ≡ (a && not c)
 not_outside true c = refl

@@ -1,7 +1,7 @@
 use Rattle.std.specs.Prelude.{◌≡◌, ℕ, ◌-◌, ◌≤◌, Bool, true, cond, not, ◌&&◌, ◌||◌, ◌⊎◌, List, [], ◌∷◌, ◌++◌, map, length, take, drop, Some, None, codes, filter, Option, ◌==◌, nat_le}
 use Rattle.std.proofs.Common.{ap}
 use Rattle.std.proofs.lemmas.Bool.{ne_eqb, both_ways}
-use Rattle.std.specs.List.{AllByRecursion as All}
+use Rattle.std.specs.List.{AllByRecursion}
 use Rattle.std.specs.Str.{bytes_eq}
 use Rattle.string_view.specs.Characters.{is_character}
 use Rattle.rules.specs.Letters.{is_small, is_letter, is_digit}
@@ -29,10 +29,10 @@ pub record SailMarked (s : List ℕ) : Type 0 where
   pub gap : List ℕ
   pub number : List ℕ
   pub whole : s ≡ nation ++ (gap ++ number)
-  pub letters : All (λ b. is_letter b ≡ true) nation
+  pub letters : AllByRecursion (λ b. is_letter b ≡ true) nation
   pub three : length nation ≡ 3
   pub blank : (gap ≡ []) ⊎ (gap ≡ codes " ")
-  pub numerals : All (λ b. is_digit b ≡ true) number
+  pub numerals : AllByRecursion (λ b. is_digit b ≡ true) number
   pub some : 1 ≤ length number
   pub few : length number ≤ 6
 

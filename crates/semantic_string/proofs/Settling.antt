@@ -1,7 +1,7 @@
 use Rattle.std.proofs.Common.{◌≡◌, ℕ, ◌+◌, ◌≤◌, Bool, true, false, cond, not, leb, List, [], ◌∷◌, ◌++◌, length, take, drop, is_ok, Ok, Err, Result, sym, refl, ap, ◌∙◌, arith}
 use Rattle.std.proofs.lemmas.List.{length-append, length-take, length-drop}
 use Rattle.std.proofs.lemmas.Bool.{and_from, cond-true, leb-true, le-leb, not_from_false}
-use Rattle.std.specs.List.{AllByRecursion as All}
+use Rattle.std.specs.List.{AllByRecursion}
 use Rattle.string_view.specs.Checks.{first_fail, insertion}
 use Rattle.string_view.specs.Refusals.{Refusal, refusal}
 use Rattle.string_view.specs.Sequences.{inserted, insert_fits}
@@ -35,7 +35,7 @@ allowed bad t e = allowed_by (bad t) e
 abbrev Passes : Bool × Refusal → Type 0
 Passes c = c.0 ≡ true
 
-none_fails : {A : Type 0} (x : A) (cs : List (Bool × Refusal)) → All Passes cs → first_fail x cs ≡ Ok x
+none_fails : {A : Type 0} (x : A) (cs : List (Bool × Refusal)) → AllByRecursion Passes cs → first_fail x cs ≡ Ok x
 none_fails x [] p = refl
 none_fails x (c ∷ cs) p = cond-true c.0 (first_fail x cs) (Err c.1) p.0 ∙ none_fails x cs p.1
 
@@ -43,7 +43,7 @@ passed_by : {A : Type 0} (x : A) (b : Bool) (f : Refusal) (rest : Result A Refus
 passed_by x true f rest e = (refl, e)
 passed_by x false f rest e = let z : ◌≡◌ {A = ℕ} 0 1 = cc in absurd (omega arith)
 
-all_passed : {A : Type 0} (x : A) (cs : List (Bool × Refusal)) → Ok x ≡ first_fail x cs → All Passes cs
+all_passed : {A : Type 0} (x : A) (cs : List (Bool × Refusal)) → Ok x ≡ first_fail x cs → AllByRecursion Passes cs
 all_passed x [] e = tt
 all_passed x (c ∷ cs) e = let p = passed_by x c.0 c.1 (first_fail x cs) e in (p.0, all_passed x cs p.1)
 

@@ -3,14 +3,13 @@ use file_name::FileName;
 use narrow::Narrow;
 use path::Path;
 use relocatable_string::RelocatableString;
-use rules::{NormalForm, SemanticStringAccessor};
+use rules::SemanticStringAccessor;
 use sail_mark::SailMark;
 use semantic_string::SemanticString;
 use semantic_string::error::SemanticStringError;
 use static_string::StaticString;
 use std::cmp::Ordering;
 use std::process::Abort;
-use std::test::Fail;
 use string::pick::{ByteList, ByteRange};
 use string_view::StringView;
 use string_view::error::{BufferTooShort, StringModificationError};
@@ -28,7 +27,7 @@ const INVALID: Result<(), SemanticStringError> = Err(SemanticStringError::Invali
 
 const BEYOND: Result<(), SemanticStringError> = Err(SemanticStringError::PositionOutOfRange);
 
-// Whether the text is the bytes.
+// The text is the bytes.
 fn reads<S: StringView, R: SemanticStringAccessor>(
     rt: &impl Abort,
     text: &SemanticString<S, R>,
@@ -52,10 +51,10 @@ fn outcome<S: Drop, R: Drop>(
 }
 
 // Insertions into a mark on a storage of capacity 8.
-fn insertions<S: StringView + Drop>(rt: &impl Abort, storage: S) -> Result<(), Fail> {
+fn insertions<S: StringView + Drop>(rt: &impl Abort, storage: S) {
     let Ok(mut mark) = SemanticString::new(storage, SailMark, b"GBR 12") else {
         assert!(rt; false);
-        return Ok(());
+        return;
     };
     assert_eq!(rt; mark.insert_bytes(6, b"345"), FULL);
     assert_eq!(rt; mark.insert_bytes(7, b"3"), BEYOND);
@@ -72,14 +71,13 @@ fn insertions<S: StringView + Drop>(rt: &impl Abort, storage: S) -> Result<(), F
     assert_eq!(rt; mark.push_bytes(b""), Ok(()));
     assert!(rt; mark.is_full() && mark.capacity() == 8);
     reads(rt, &mark, b"GBR 1234");
-    Ok(())
 }
 
 // Removals from a mark on a storage of capacity 8.
-fn removals<S: StringView + Drop>(rt: &impl Abort, storage: S) -> Result<(), Fail> {
+fn removals<S: StringView + Drop>(rt: &impl Abort, storage: S) {
     let Ok(mut mark) = SemanticString::new(storage, SailMark, b"GBR 1211") else {
         assert!(rt; false);
-        return Ok(());
+        return;
     };
     assert_eq!(rt; mark.remove(8), Ok(None));
     assert_eq!(rt; mark.remove(7), Ok(Some(b'1')));
@@ -109,14 +107,13 @@ fn removals<S: StringView + Drop>(rt: &impl Abort, storage: S) -> Result<(), Fai
     assert_eq!(rt; mark.pop(), Ok(Some(b'4')));
     assert_eq!(rt; mark.truncate(4), Ok(()));
     reads(rt, &mark, b"GBR2");
-    Ok(())
 }
 
 // Questions of a path on a storage of capacity 8.
-fn questions<S: StringView + Drop>(rt: &impl Abort, storage: S) -> Result<(), Fail> {
+fn questions<S: StringView + Drop>(rt: &impl Abort, storage: S) {
     let Ok(path) = SemanticString::new(storage, Path, b"a//b//") else {
         assert!(rt; false);
-        return Ok(());
+        return;
     };
     assert_eq!(rt; path.find(b"//"), Some(1));
     assert_eq!(rt; path.rfind(b"//"), Some(4));
@@ -131,48 +128,47 @@ fn questions<S: StringView + Drop>(rt: &impl Abort, storage: S) -> Result<(), Fa
     assert!(rt; buffer == [b'a', b'/', b'b', b'#']);
     let Ok(other) = SemanticString::new(StaticString::new(3), Path, b"a/b") else {
         assert!(rt; false);
-        return Ok(());
+        return;
     };
     assert!(rt; path.same(&other) && other.same(&path));
     assert!(rt; path.compare(&other) == Ordering::Equal);
     let Ok(longer) = SemanticString::new(StaticString::new(4), Path, b"a/bc") else {
         assert!(rt; false);
-        return Ok(());
+        return;
     };
     assert!(rt; !path.same(&longer));
     assert!(rt; path.compare(&longer) == Ordering::Less);
     assert!(rt; longer.compare(&path) == Ordering::Greater);
-    Ok(())
 }
 
 #[test]
-fn by_value(rt: HostRuntime) -> Result<(), Fail> {
-    insertions(&rt, StaticString::new(8))?;
-    removals(&rt, StaticString::new(8))?;
-    questions(&rt, StaticString::new(8))
+fn by_value(rt: HostRuntime) {
+    insertions(&rt, StaticString::new(8));
+    removals(&rt, StaticString::new(8));
+    questions(&rt, StaticString::new(8));
 }
 
 #[test]
-fn in_a_region(rt: HostRuntime) -> Result<(), Fail> {
+fn in_a_region(rt: HostRuntime) {
     let mut region = [b'#'; 10];
-    insertions(&rt, RelocatableString::new_uninit(8).init(&mut region))?;
-    removals(&rt, RelocatableString::new_uninit(8).init(&mut region))?;
+    insertions(&rt, RelocatableString::new_uninit(8).init(&mut region));
+    removals(&rt, RelocatableString::new_uninit(8).init(&mut region));
     assert!(rt; region == [b'G', b'B', b'R', b'2', 0, 0, 0, 0, 0, b'#']);
-    questions(&rt, RelocatableString::new_uninit(8).init(&mut region))
+    questions(&rt, RelocatableString::new_uninit(8).init(&mut region));
 }
 
 // A storage that held another text is emptied first.
 #[test]
-fn narrowed(rt: HostRuntime) -> Result<(), Fail> {
+fn narrowed(rt: HostRuntime) {
     let mut long = StaticString::new(200);
     assert!(rt; long.put(0, b"whatever stood here"));
-    insertions(&rt, Narrow::new(Narrow::new(long, 9), 8))?;
-    removals(&rt, Narrow::new(long, 8))?;
+    insertions(&rt, Narrow::new(Narrow::new(long, 9), 8));
+    removals(&rt, Narrow::new(long, 8));
     let mut region = [b'#'; 20];
     questions(
         &rt,
         Narrow::new(RelocatableString::new_uninit(18).init(&mut region), 8),
-    )
+    );
 }
 
 #[test]
@@ -202,7 +198,7 @@ fn set_ups(rt: HostRuntime) {
 }
 
 #[test]
-fn slots(rt: HostRuntime) -> Result<(), Fail> {
+fn slots(rt: HostRuntime) {
     let short = StaticString::new(3);
     assert_eq!(rt;
         outcome(SemanticString::from_c_str(short, FileName, b"abcd\0")),
@@ -218,24 +214,23 @@ fn slots(rt: HostRuntime) -> Result<(), Fail> {
     );
     let Ok(name) = SemanticString::from_c_str(short, FileName, b"abc\0..") else {
         assert!(rt; false);
-        return Ok(());
+        return;
     };
     reads(&rt, &name, b"abc");
     let Ok(unended) = SemanticString::from_c_str(short, FileName, b"ab") else {
         assert!(rt; false);
-        return Ok(());
+        return;
     };
     reads(&rt, &unended, b"ab");
-    Ok(())
 }
 
 // A long pattern of which nothing would be left.
 #[test]
-fn long_strips(rt: HostRuntime) -> Result<(), Fail> {
+fn long_strips(rt: HostRuntime) {
     let letters = [b'a'; 124];
     let Ok(mut name) = SemanticString::new(StaticString::new(255), FileName, &letters) else {
         assert!(rt; false);
-        return Ok(());
+        return;
     };
     assert_eq!(rt;
         name.strip_prefix(&letters),
@@ -248,33 +243,31 @@ fn long_strips(rt: HostRuntime) -> Result<(), Fail> {
     assert_eq!(rt; name.len(), 124);
     assert_eq!(rt; name.strip_suffix(&letters[0..123]), Ok(true));
     reads(&rt, &name, b"a");
-    Ok(())
 }
 
 // A region whose capacity is 0 holds no mark, and holds the empty text where the rule allows that.
 #[test]
-fn a_rule_that_borrows(rt: HostRuntime) -> Result<(), Fail> {
+fn a_rule_that_borrows(rt: HostRuntime) {
     let allowed = [b'x', b'y'];
     let rule = OneOf { bytes: &allowed };
     let mut region = [b'#'; 3];
     let none = RelocatableString::new_uninit(8).init(&mut region);
     let Ok(mut text) = SemanticString::new(none, rule, b"") else {
         assert!(rt; false);
-        return Ok(());
+        return;
     };
     assert_eq!(rt; text.pop(), Ok(None));
     assert_eq!(rt; text.push(b'x'), FULL);
     assert!(rt; region == [b'#'; 3]);
     let Ok(mut other) = SemanticString::new(StaticString::new(8), rule, b"x") else {
         assert!(rt; false);
-        return Ok(());
+        return;
     };
     assert_eq!(rt; other.push(b'y'), INVALID);
     assert_eq!(rt; other.insert(0, b'z'), INVALID);
     assert_eq!(rt; other.pop(), Ok(Some(b'x')));
     assert_eq!(rt; other.push(b'y'), Ok(()));
     reads(&rt, &other, b"y");
-    Ok(())
 }
 
 #[test]
