@@ -1,10 +1,10 @@
 #![tactic(auto)]
 
-ghost use Rattle.std.specs.Prelude.{◌≡◌, min, []};
-ghost use Rattle.static_string.specs.Fixed.{room_of, text_of, is_small, is_short};
+ghost use Rattle.std.specs.Prelude.{◌≡◌, ◌≤◌, min, []};
 
 use cells::{insert_into, remove_from};
 use string_view::StringView;
+use string_view::bytes::bytes_of;
 
 // A string that keeps its bytes by value.
 #[derive(Clone, Copy)]
@@ -12,9 +12,13 @@ pub struct StaticString {
     data: [u8; 255],
     capacity: u8,
     len: u8,
+    ghost small: { capacity ≤ 255 },
+    ghost within: { len ≤ capacity },
 }
 
 impl StaticString {
+    ghost use Rattle.static_string.specs.Fixed.{room_of, text_of};
+
     // An empty string. A capacity above 255 becomes 255.
     pub fn new(capacity: usize) -> StaticString
         ensures room { room_of result ≡ min capacity 255 }
@@ -26,9 +30,34 @@ impl StaticString {
             len: 0,
         }
     }
+
+    // The text of any storage, by value, at the largest capacity.
+    pub fn copy_of<S: StringView>(s: &S) -> StaticString
+        ensures room { room_of result ≡ 255 }
+        ensures text { text_of result ≡ S.seq s.now }
+    {
+        let mut data = [0; 255];
+        for (cell, byte) in data.iter_mut().zip(bytes_of(s)) {
+            *cell = byte;
+        }
+        StaticString {
+            data,
+            capacity: 255,
+            len: s.len() as u8,
+        }
+    }
+
+    // The text.
+    pub fn as_slice(&self) -> &[u8]
+        ensures text { result.now ≡ text_of self.now }
+    {
+        &self.data[..self.len as usize]
+    }
 }
 
 impl StringView for StaticString {
+    ghost use Rattle.static_string.specs.Fixed.{room_of, text_of, is_small, is_short};
+
     ghost room = { room_of };
 
     ghost seq = { text_of };
@@ -48,7 +77,7 @@ impl StringView for StaticString {
     }
 
     fn len(&self) -> usize {
-        self.len.min(self.capacity) as usize
+        self.len as usize
     }
 
     fn at(&self, place: usize) -> Option<u8> {

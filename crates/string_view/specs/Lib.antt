@@ -1,6 +1,7 @@
 pub mod Characters
 pub mod Checks
 pub mod Frames
+pub mod Left
 pub mod Places
 pub mod Refusals
 pub mod Sequences

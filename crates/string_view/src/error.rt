@@ -1,5 +1,5 @@
 ghost use Rattle.std.specs.Prelude.{◌≡◌};
-ghost use Rattle.string_view.specs.Refusals.{told, region_told, buffer_told};
+ghost use Rattle.string_view.specs.Refusals.{Refusal, told, region_told, buffer_told};
 
 // Why an insertion into a string, or the loading of one, is refused.
 #[derive(Clone, Copy, PartialEq, Eq, Debug)]
@@ -20,11 +20,19 @@ pub struct RegionTooShort;
 #[derive(Clone, Copy, PartialEq, Eq, Debug)]
 pub struct BufferTooShort;
 
-impl StringModificationError {
-    // The number under which the refusal is known to crews and in files.
-    pub fn number(&self) -> u8
-        ensures answer { result ≡ (told self.now).number }
-    {
+// A refusal that crews and files know by a number.
+pub trait Numbered {
+    // the refusal by its number, and the values that it carries
+    ghost refusal: { Self → Refusal };
+
+    fn number(&self) -> u8
+        ensures answer { result ≡ (refusal self.now).number };
+}
+
+impl Numbered for StringModificationError {
+    ghost refusal = { told };
+
+    fn number(&self) -> u8 {
         match self {
             StringModificationError::InvalidCharacter { .. } => 2,
             StringModificationError::InsertWouldExceedCapacity => 1,
@@ -33,20 +41,18 @@ impl StringModificationError {
     }
 }
 
-impl RegionTooShort {
-    // As `StringModificationError::number`.
-    pub fn number(&self) -> u8
-        ensures answer { result ≡ (region_told self.now).number }
-    {
+impl Numbered for RegionTooShort {
+    ghost refusal = { region_told };
+
+    fn number(&self) -> u8 {
         8
     }
 }
 
-impl BufferTooShort {
-    // As `StringModificationError::number`.
-    pub fn number(&self) -> u8
-        ensures answer { result ≡ (buffer_told self.now).number }
-    {
+impl Numbered for BufferTooShort {
+    ghost refusal = { buffer_told };
+
+    fn number(&self) -> u8 {
         9
     }
 }

@@ -4,6 +4,7 @@ ghost use Rattle.std.specs.Prelude.{◌≡◌, ℕ, ◌≤◌, List, length, if�
 ghost use Rattle.string_view.specs.Sequences.{inserted, removed, insert_fits, remove_fits, StandsAt};
 ghost use Rattle.string_view.specs.Frames.{Kept};
 
+pub mod bytes;
 pub mod error;
 
 // A storage: a capacity and a text, a sequence of bytes. Whoever offers one shows all that is written here.

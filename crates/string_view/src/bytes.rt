@@ -1,0 +1,40 @@
+ghost use Rattle.std.specs.Prelude.{◌≡◌, drop};
+ghost use Rattle.std.specs.Iterator.{YieldsFirst, item_count};
+ghost use Rattle.string_view.specs.Left.{left};
+
+use crate::StringView;
+
+// The bytes of a storage from a place on.
+#[derive(Drop)]
+pub struct Bytes<'a, S> {
+    of: &'a S,
+    place: usize,
+}
+
+impl<'a, S: StringView> Iterator for Bytes<'a, S> {
+    type Item = u8;
+
+    ghost next_gives = { YieldsFirst (left S.StringView) };
+
+    ghost remaining = { item_count (left S.StringView) };
+
+    fn next(&mut self) -> Option<u8> {
+        let byte = self.of.at(self.place)?;
+        self.place += 1;
+        Some(byte)
+    }
+}
+
+// The bytes of a storage.
+pub fn bytes_of<S: StringView>(s: &S) -> Bytes<'_, S>
+    ensures bytes { left S.StringView result ≡ S.seq s.now }
+{
+    bytes_from(s, 0)
+}
+
+// The bytes of a storage from a place on; none, where it lies behind them.
+pub fn bytes_from<S: StringView>(s: &S, place: usize) -> Bytes<'_, S>
+    ensures bytes { left S.StringView result ≡ drop place (S.seq s.now) }
+{
+    Bytes { of: s, place }
+}
