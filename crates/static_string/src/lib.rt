@@ -4,7 +4,7 @@ ghost use Rattle.std.specs.Prelude.{◌≡◌, ◌≤◌, min, []};
 
 use cells::{insert_into, remove_from};
 use string_view::StringView;
-use string_view::bytes::bytes_of;
+use string_view::bytes::copy_bytes;
 
 // A string that keeps its bytes by value.
 #[derive(Clone, Copy)]
@@ -37,9 +37,7 @@ impl StaticString {
         ensures text { text_of result ≡ S.seq s.now }
     {
         let mut data = [0; 255];
-        for (cell, byte) in data.iter_mut().zip(bytes_of(s)) {
-            *cell = byte;
-        }
+        copy_bytes(s, &mut data);
         StaticString {
             data,
             capacity: 255,
@@ -81,11 +79,7 @@ impl StringView for StaticString {
     }
 
     fn at(&self, place: usize) -> Option<u8> {
-        if place < self.len() {
-            Some(self.data[place])
-        } else {
-            None
-        }
+        self.as_slice().get(place).copied()
     }
 
     fn put(&mut self, place: usize, bytes: &[u8]) -> bool {

@@ -1,3 +1,4 @@
+pub mod Copies
 pub mod Framing
 pub mod Places
 pub mod Sequences

@@ -1,4 +1,4 @@
-ghost use Rattle.std.specs.Prelude.{◌≡◌, drop};
+ghost use Rattle.std.specs.Prelude.{◌≡◌, ◌++◌, length, take, drop};
 ghost use Rattle.std.specs.Iterator.{YieldsFirst, item_count};
 ghost use Rattle.string_view.specs.Left.{left};
 
@@ -37,4 +37,13 @@ pub fn bytes_from<S: StringView>(s: &S, place: usize) -> Bytes<'_, S>
     ensures bytes { left S.StringView result ≡ drop place (S.seq s.now) }
 {
     Bytes { of: s, place }
+}
+
+// Writes the bytes of a storage into the first cells of the buffer, or as many as it has cells for.
+pub fn copy_bytes<S: StringView>(s: &S, buffer: &mut [u8])
+    ensures cells { buffer.new ≡ take (length buffer.old) (S.seq s.now) ++ drop (length (S.seq s.now)) buffer.old }
+{
+    for (place, byte) in bytes_of(s).enumerate().take(buffer.len()) {
+        buffer[place] = byte;
+    }
 }
