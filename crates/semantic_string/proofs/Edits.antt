@@ -1,4 +1,4 @@
-use Rattle.std.proofs.Common.{◌≡◌, ℕ, ◌-◌, Bool, true, false, List, ◌++◌, length, take, drop, sym, refl, ap, ◌∙◌, inl, inr, arith}
+use Rattle.std.proofs.Common.{◌≤◌, ◌≡◌, ℕ, ◌-◌, Bool, true, false, List, ◌++◌, length, take, drop, sym, refl, ap, ◌∙◌, inl, inr, arith}
 use Rattle.std.proofs.lemmas.Slice.Eq.{bytes_eq-Decides}
 use Rattle.std.proofs.lemmas.List.Prefix.{front_rest, end_rest}
 use Rattle.std.proofs.lemmas.List.{length-append, take_at, take-append-drop}
@@ -34,3 +34,8 @@ end_strip_is false s p t h =
     false_from (bytes_eq (drop k s) p)
     (λ y. h.1 (take k s) (sym (take-append-drop k s) ∙ ap (λ z. take k s ++ z) ((bytes_eq-Decides (drop k s) p).0 y))) in
     ap (outcome false) h.0 ∙ sym (cond-false (bytes_eq (drop k s) p) (outcome true (take k s)) (outcome false s) unlike)
+
+-- a strip makes no text longer
+pub front_strip_short : (b : Bool) (s p t : List ℕ) → StrippedFront b s p t → length t ≤ length s
+front_strip_short true s p t e = omega (arith, ap length e, length-append p t)
+front_strip_short false s p t h = omega (arith, ap length h.0)

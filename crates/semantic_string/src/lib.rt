@@ -15,7 +15,7 @@ ghost use Rattle.semantic_string.specs.Refusals.{semantic_told};
 use rules::SemanticStringAccessor;
 use static_string::StaticString;
 use string::pick::Pick;
-use string::{clear, insert_bytes, is_empty, is_full, remove, remove_range, retain, truncate};
+use string::{insert_bytes, is_empty, is_full, remove, remove_range, retain, truncate};
 use string_bytes::utils::strnlen;
 use string_bytes::{as_bytes, from_bytes};
 use string_search::{find, rfind, strip_prefix, strip_suffix};
@@ -91,17 +91,6 @@ impl<S: StringView, R: SemanticStringAccessor> SemanticString<S, R> {
         Ok(())
     }
 
-    // Makes the text that a trial came to the text, if the rule allows it.
-    fn settle(&mut self, trial: &StaticString) -> Result<(), SemanticStringError>
-        requires fits { length (fixed.text_of trial.now) ≤ room_of self.old }
-        ensures { Settled (content (bad_of self.old) (fixed.text_of trial.now) ∷ []) (outcome tt (fixed.text_of trial.now)) self.old self.new result }
-    {
-        self.check(trial)?;
-        clear(&mut self.storage);
-        self.storage.put(0, trial.as_slice());
-        Ok(())
-    }
-
     // Writes the text into the first cells of the buffer, and answers how many bytes it is.
     pub fn as_bytes(&self, buffer: &mut [u8]) -> Result<usize, BufferTooShort>
         ensures answer { answered buffer_told result ≡ first_fail (length (text_of self.now)) (enough (text_of self.now) buffer.old ∷ []) }
@@ -165,7 +154,9 @@ impl<S: StringView, R: SemanticStringAccessor> SemanticString<S, R> {
     {
         let mut trial = StaticString::copy_of(&self.storage);
         insert_bytes(&mut trial, idx, bytes).map_err(passed_on)?;
-        self.settle(&trial)
+        self.check(&trial)?;
+        self.storage.put(idx, bytes);
+        Ok(())
     }
 
     // Removes the last byte and answers it; none, if there is none.
@@ -197,7 +188,8 @@ impl<S: StringView, R: SemanticStringAccessor> SemanticString<S, R> {
     {
         let mut trial = StaticString::copy_of(&self.storage);
         let byte = remove(&mut trial, idx);
-        self.settle(&trial)?;
+        self.check(&trial)?;
+        let _ = remove(&mut self.storage, idx);
         Ok(byte)
     }
 
@@ -207,7 +199,9 @@ impl<S: StringView, R: SemanticStringAccessor> SemanticString<S, R> {
     {
         let mut trial = StaticString::copy_of(&self.storage);
         remove_range(&mut trial, idx, len);
-        self.settle(&trial)
+        self.check(&trial)?;
+        remove_range(&mut self.storage, idx, len);
+        Ok(())
     }
 
     // Removes the bytes for which the pick says yes.
@@ -216,17 +210,20 @@ impl<S: StringView, R: SemanticStringAccessor> SemanticString<S, R> {
     {
         let mut trial = StaticString::copy_of(&self.storage);
         retain(&mut trial, pick);
-        self.settle(&trial)
+        self.check(&trial)?;
+        retain(&mut self.storage, pick);
+        Ok(())
     }
 
     // Removes the pattern from the front, if the text starts with it, and answers whether it did.
-    #[tactic(auto, using(crate::proofs::Edits::front_strip_is))]
+    #[tactic(auto, using(crate::proofs::Edits::front_strip_is, crate::proofs::Edits::front_strip_short))]
     pub fn strip_prefix(&mut self, bytes: &[u8]) -> Result<bool, SemanticStringError>
         ensures edit { Checked (front_strip bytes.now) self.old self.new result }
     {
         let mut trial = StaticString::copy_of(&self.storage);
         let found = strip_prefix(&mut trial, bytes);
-        self.settle(&trial)?;
+        self.check(&trial)?;
+        strip_prefix(&mut self.storage, bytes);
         Ok(found)
     }
 
@@ -237,7 +234,8 @@ impl<S: StringView, R: SemanticStringAccessor> SemanticString<S, R> {
     {
         let mut trial = StaticString::copy_of(&self.storage);
         let found = strip_suffix(&mut trial, bytes);
-        self.settle(&trial)?;
+        self.check(&trial)?;
+        strip_suffix(&mut self.storage, bytes);
         Ok(found)
     }
 
@@ -247,6 +245,8 @@ impl<S: StringView, R: SemanticStringAccessor> SemanticString<S, R> {
     {
         let mut trial = StaticString::copy_of(&self.storage);
         truncate(&mut trial, new_len);
-        self.settle(&trial)
+        self.check(&trial)?;
+        truncate(&mut self.storage, new_len);
+        Ok(())
     }
 }
