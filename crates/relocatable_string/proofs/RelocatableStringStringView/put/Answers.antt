@@ -1,29 +1,17 @@
-use Rattle.std.proofs.Common.{◌≡◌, [], ◌∷◌, length, ap, ◌∙◌, arith, rules}
-use Rattle.cells.specs.Texts.{inserting}
-use Rattle.cells.proofs.Texts.{accepted}
-use Rattle.relocatable_string.specs.Region.{announced_of}
-use Rattle.relocatable_string.proofs.Regions as regions
+use Rattle.std.proofs.Common.{arith, rules}
+use Rattle.std.proofs.lemmas.Bool.Decides.{nat_tests}
+use Rattle.relocatable_string.proofs.Regions.{put_beyond, put_closed}
 use Rattle.relocatable_string.proofs.RelocatableStringStringView.put.Goals as goal
 
-pub returns : goal.returns
-returns c =
+pub invariant_of-self-2-clause-closed : goal.invariant_of-self-2-clause-closed
+invariant_of-self-2-clause-closed c =
     let s = c.args.self.now in
-    let xs = s.region.now in
-    let ys = c.insert_into.new.cells in
-    let bs = c.args.bytes.now in
-    let p = c.args.place in
-    let n = c.len-len.result in
-    let is = c.len-len.ensures.answer in
-    let same : length ys ≡ length xs = c.insert_into.auto.cells in
-    let did = accepted _ _ _ _ _ _ _ _ c.if-not-insert_into.false c.insert_into.ensures.answer c.insert_into.ensures.cells in
+    put_closed _ _ _ _ c.args.place c.insert_into.auto.cells s.within _ c.if-not-insert_into.ensures.cells (grind (arith, nat_tests)) (grind (arith, nat_tests)) s.closed
+
+pub returns-clause-frame : goal.returns-clause-frame
+returns-clause-frame c =
     record {
-      answer = search rules;
-      text = regions.put_text xs ys (announced_of s) s.len n is same bs p did.0 (omega (arith, did.1)) did.2;
-      frame = record {
-        room = regions.room_kept xs ys (announced_of s) s.len n is same;
-        beyond = regions.put_beyond xs ys (announced_of s) s.len n is same bs p did.0 (omega (arith, did.1)) did.2;
-        fixed = ap (λ q. s.region.ghost_name ∷ (q ∷ (announced_of s ∷ []))) same;
-        closed = regions.put_closed xs ys (announced_of s) s.len n is same bs p did.0 (omega (arith, did.1)) did.2;
-      };
-      cells = did.2 ∙ ap (λ k. inserting k p bs xs) is;
+      room = search rules;
+      beyond = put_beyond _ _ _ _ c.args.place c.insert_into.auto.cells c.args.self.now.within _ c.if-not-insert_into.ensures.cells (grind (arith, nat_tests)) (grind (arith, nat_tests));
+      fixed = search rules;
     }
