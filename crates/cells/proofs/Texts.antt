@@ -1,4 +1,5 @@
-use Rattle.std.proofs.Common.{◌≡◌, ℕ, ◌+◌, ◌-◌, ◌≤◌, List, length, take, drop, get_or, ap, arith, rules}
+use Rattle.std.proofs.Common.{◌≡◌, ℕ, ◌+◌, ◌-◌, ◌≤◌, Bool, true, cond, ◌&&◌, leb, List, length, take, drop, get_or, sym, ap, ◌∙◌, arith, rules}
+use Rattle.std.proofs.lemmas.Bool.{and_parts, leb-true, cond-true}
 use Rattle.std.proofs.lemmas.List.{places, same_lists}
 use Rattle.string_view.specs.Sequences.{inserted, removed}
 use Rattle.cells.specs.Texts.{inserting, removing, Zeros}
@@ -25,3 +26,9 @@ module _ (xs ys : List ℕ) (n p k u : ℕ) (part : p + k ≤ n) (in_use : n ≤
   pub removing_zeros : Zeros u n xs → Zeros u (n - k) ys
   removing_zeros z =
       same_lists _ _ (search (rules, places)) (λ j d h. grind (arith, places, ap (λ q. get_or q (j - k) d) z))
+
+-- what an accepted call tells: that its two tests passed, and the cells after it
+pub accepted : (r : Bool) (a b c d : ℕ) (xs ys zs : List ℕ) → r ≡ true → r ≡ (leb a b && leb c d) → ys ≡ cond r zs xs → (a ≤ b) × (c ≤ d) × (ys ≡ zs)
+accepted r a b c d xs ys zs t e is =
+    let parts = and_parts (leb a b) (leb c d) (sym e ∙ t) in
+    (leb-true a b parts.0, leb-true c d parts.1, is ∙ cond-true r zs xs t)

@@ -1,17 +1,19 @@
 use Rattle.std.proofs.Common.{arith, rules}
 use Rattle.std.proofs.lemmas.Bool.Decides.{nat_tests}
-use Rattle.relocatable_string.proofs.Regions.{put_beyond, put_closed}
+use Rattle.cells.proofs.Texts.{inserting_beyond, inserting_zeros}
+use Rattle.relocatable_string.specs.Relocatable.{used_of}
 use Rattle.relocatable_string.proofs.RelocatableStringStringView.put.Goals as goal
 
 pub invariant_of-self-2-clause-closed : goal.invariant_of-self-2-clause-closed
 invariant_of-self-2-clause-closed c =
     let s = c.args.self.now in
-    put_closed _ _ _ _ c.args.place c.insert_into.auto.cells s.within _ c.if-not-insert_into.ensures.cells (grind (arith, nat_tests)) (grind (arith, nat_tests)) s.closed
+    rw c.insert_into.auto.cells (inserting_zeros s.region.now c.insert_into.new.cells c.args.bytes.now s.len c.args.place (used_of s) (grind (arith, nat_tests)) (grind (arith, nat_tests)) (grind (arith, nat_tests)) c.if-not-insert_into.ensures.cells s.closed)
 
 pub returns-clause-frame : goal.returns-clause-frame
 returns-clause-frame c =
+    let s = c.args.self.now in
     record {
       room = search rules;
-      beyond = put_beyond _ _ _ _ c.args.place c.insert_into.auto.cells c.args.self.now.within _ c.if-not-insert_into.ensures.cells (grind (arith, nat_tests)) (grind (arith, nat_tests));
+      beyond = rw c.insert_into.auto.cells (inserting_beyond s.region.now c.insert_into.new.cells c.args.bytes.now s.len c.args.place (used_of s) (grind (arith, nat_tests)) (grind (arith, nat_tests)) (grind (arith, nat_tests)) c.if-not-insert_into.ensures.cells);
       fixed = search rules;
     }
