@@ -40,8 +40,6 @@ impl<S: StringView> StringView for Narrow<S> {
 
     ghost fixed = { λ s. s.n ∷ (S.StringView.room s.inner ∷ S.StringView.fixed s.inner) };
 
-    ghost closed = { λ s. S.StringView.closed s.inner };
-
     ghost small = { λ s. min_small s.n (S.StringView.room s.inner) (S.StringView.small s.inner) };
 
     ghost short = { λ s. S.StringView.short s.inner };
