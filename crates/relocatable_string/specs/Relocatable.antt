@@ -1,5 +1,6 @@
-use Rattle.std.specs.Prelude.{ℕ, ◌≤◌, Bool, true, false, List, [], ◌∷◌, length, take, drop, nat_lt, if◌then◌else◌}
-use Rattle.std.proofs.Common.{arith, ◌+◌, ◌-◌, length-take}
+use Rattle.std.specs.Prelude.{ℕ, ◌≤◌, List, [], ◌∷◌, length, take, drop}
+use Rattle.std.proofs.Common.{arith, length-take}
+use Rattle.std.proofs.lemmas.Bool.Decides.{nat_tests}
 use Rattle.relocatable_string.specs.Region.{used, room_in}
 use Rattle.relocatable_string.specs.declared.RelocatableStringUninit.{RelocatableStringUninit}
 use Rattle.relocatable_string.specs.declared.RelocatableString.{RelocatableString}
@@ -29,12 +30,8 @@ beyond_of s = drop (used_of s) (cells_of s)
 abbrev pub fixed_of : RelocatableString → List ℕ
 fixed_of s = s.region.ghost_name ∷ (length (cells_of s) ∷ (announced_of s ∷ []))
 
-room_small : (c : ℕ) (b : Bool) → c ≤ 255 → (if b then c + 1 else 0) - 1 ≤ 255
-room_small c true h = omega arith
-room_small c false h = omega arith
-
 pub is_small : (s : RelocatableString) → room_of s ≤ 255
-is_small s = room_small s.capacity (nat_lt s.capacity (length (cells_of s))) s.small
+is_small s = grind (arith, nat_tests)
 
 pub is_short : (s : RelocatableString) → length (text_of s) ≤ 255
 is_short s = omega (arith, length-take s.len (cells_of s), is_small s, s.within)
