@@ -7,13 +7,12 @@ use Rattle.relocatable_string.proofs.RelocatableStringStringView.put.Goals as go
 pub invariant_of-self-2-clause-closed : goal.invariant_of-self-2-clause-closed
 invariant_of-self-2-clause-closed c =
     let s = c.args.self.now in
-    rw c.insert_into.auto.cells (inserting_zeros s.region.now c.insert_into.new.cells c.args.bytes.now s.len c.args.place (used_of s) (grind (arith, nat_tests)) (grind (arith, nat_tests)) (grind (arith, nat_tests)) c.if-not-insert_into.ensures.cells s.closed)
+    rw c.insert_into.auto.cells (inserting_zeros _ _ _ _ c.args.place (used_of s) c.if-not-insert_into.ensures.cells (grind (arith, nat_tests)) (grind (arith, nat_tests)) (grind (arith, nat_tests)) s.closed)
 
 pub returns-clause-frame : goal.returns-clause-frame
 returns-clause-frame c =
-    let s = c.args.self.now in
     record {
       room = search rules;
-      beyond = rw c.insert_into.auto.cells (inserting_beyond s.region.now c.insert_into.new.cells c.args.bytes.now s.len c.args.place (used_of s) (grind (arith, nat_tests)) (grind (arith, nat_tests)) (grind (arith, nat_tests)) c.if-not-insert_into.ensures.cells);
+      beyond = rw c.insert_into.auto.cells (inserting_beyond _ _ _ _ c.args.place (used_of c.args.self.now) c.if-not-insert_into.ensures.cells (grind (arith, nat_tests)) (grind (arith, nat_tests)) (grind (arith, nat_tests)));
       fixed = search rules;
     }

@@ -7,13 +7,12 @@ use Rattle.relocatable_string.proofs.RelocatableStringStringView.take.Goals as g
 pub invariant_of-self-2-clause-closed : goal.invariant_of-self-2-clause-closed
 invariant_of-self-2-clause-closed c =
     let s = c.args.self.now in
-    rw c.remove_from.auto.cells (removing_zeros s.region.now c.remove_from.new.cells s.len c.args.place c.args.count (used_of s) (grind (arith, nat_tests)) (grind (arith, nat_tests)) (grind (arith, nat_tests)) c.if-not-remove_from.ensures.cells s.closed)
+    rw c.remove_from.auto.cells (removing_zeros _ _ _ c.args.place _ (used_of s) c.if-not-remove_from.ensures.cells (grind (arith, nat_tests)) (grind (arith, nat_tests)) (grind (arith, nat_tests)) s.closed)
 
 pub returns-clause-frame : goal.returns-clause-frame
 returns-clause-frame c =
-    let s = c.args.self.now in
     record {
       room = search rules;
-      beyond = rw c.remove_from.auto.cells (removing_beyond s.region.now c.remove_from.new.cells s.len c.args.place c.args.count (used_of s) (grind (arith, nat_tests)) (grind (arith, nat_tests)) (grind (arith, nat_tests)) c.if-not-remove_from.ensures.cells);
+      beyond = rw c.remove_from.auto.cells (removing_beyond _ _ _ c.args.place _ (used_of c.args.self.now) c.if-not-remove_from.ensures.cells (grind (arith, nat_tests)) (grind (arith, nat_tests)) (grind (arith, nat_tests)));
       fixed = search rules;
     }
