@@ -20,7 +20,7 @@ impl Pick for ByteRange {
     ghost picked = { λ p b. nat_le p.first b && nat_le b p.last };
 
     fn picks(&self, byte: u8) -> bool {
-        self.first <= byte && byte <= self.last
+        (self.first..=self.last).contains(&byte)
     }
 }
 
@@ -34,11 +34,6 @@ impl<'a> Pick for ByteList<'a> {
     ghost picked = { λ p b. listed p.bytes.now b };
 
     fn picks(&self, byte: u8) -> bool {
-        for b in self.bytes {
-            if *b == byte {
-                return true;
-            }
-        }
-        false
+        self.bytes.contains(&byte)
     }
 }

@@ -9,6 +9,7 @@ ghost use Rattle.string_bytes.specs.Terminated.{terminated};
 
 use string::{clear, first_bad};
 use string_view::StringView;
+use string_view::bytes::bytes_of;
 use string_view::error::{BufferTooShort, StringModificationError};
 
 pub mod utils;
@@ -17,20 +18,19 @@ use utils::strnlen;
 
 // Copies the text into the first cells of a buffer that has room for it.
 fn copy_text<S: StringView>(s: &S, buffer: &mut [u8])
-    requires { length (S.StringView.seq s.now) ≤ length buffer.old }
-    ensures { buffer.new ≡ written (S.StringView.seq s.now) buffer.old }
+    requires { length (S.seq s.now) ≤ length buffer.old }
+    ensures { buffer.new ≡ written (S.seq s.now) buffer.old }
 {
-    for i in 0..s.len() {
-        if let Some(byte) = s.at(i) {
-            buffer[i] = byte;
-        }
+    // By place: of cells lent by `iter_mut` under a `zip` the checker keeps nothing but their number.
+    for (place, byte) in bytes_of(s).enumerate() {
+        buffer[place] = byte;
     }
 }
 
 // Writes the text into the first cells of the buffer, and answers how many bytes it is.
 pub fn as_bytes<S: StringView>(s: &S, buffer: &mut [u8]) -> Result<usize, BufferTooShort>
-    ensures answer { answered buffer_told result ≡ first_fail (length (S.StringView.seq s.now)) (enough (S.StringView.seq s.now) buffer.old ∷ []) }
-    ensures cells { buffer.new ≡ (if is_ok result then written (S.StringView.seq s.now) buffer.old else buffer.old) }
+    ensures answer { answered buffer_told result ≡ first_fail (length (S.seq s.now)) (enough (S.seq s.now) buffer.old ∷ []) }
+    ensures cells { buffer.new ≡ (if is_ok result then written (S.seq s.now) buffer.old else buffer.old) }
 {
     let len = s.len();
     if len > buffer.len() {
@@ -42,8 +42,8 @@ pub fn as_bytes<S: StringView>(s: &S, buffer: &mut [u8]) -> Result<usize, Buffer
 
 // Writes the text and a zero behind it into the first cells of the buffer, and answers how many bytes these are.
 pub fn as_bytes_with_nul<S: StringView>(s: &S, buffer: &mut [u8]) -> Result<usize, BufferTooShort>
-    ensures answer { answered buffer_told result ≡ first_fail (length (S.StringView.seq s.now ++ (0 ∷ []))) (enough (S.StringView.seq s.now ++ (0 ∷ [])) buffer.old ∷ []) }
-    ensures cells { buffer.new ≡ (if is_ok result then written (S.StringView.seq s.now ++ (0 ∷ [])) buffer.old else buffer.old) }
+    ensures answer { answered buffer_told result ≡ first_fail (length (S.seq s.now ++ (0 ∷ []))) (enough (S.seq s.now ++ (0 ∷ [])) buffer.old ∷ []) }
+    ensures cells { buffer.new ≡ (if is_ok result then written (S.seq s.now ++ (0 ∷ [])) buffer.old else buffer.old) }
 {
     let len = s.len();
     if len >= buffer.len() {
@@ -56,16 +56,14 @@ pub fn as_bytes_with_nul<S: StringView>(s: &S, buffer: &mut [u8]) -> Result<usiz
 
 // Makes the bytes the text.
 pub fn from_bytes<S: StringView>(s: &mut S, bytes: &[u8]) -> Result<(), StringModificationError>
-    ensures answer { answered told result ≡ first_fail tt (loading (S.StringView.room s.old) bytes.now) }
-    ensures text { S.StringView.seq s.new ≡ (if is_ok result then bytes.now else S.StringView.seq s.old) }
+    ensures answer { answered told result ≡ first_fail tt (loading (S.room s.old) bytes.now) }
+    ensures text { S.seq s.new ≡ (if is_ok result then bytes.now else S.seq s.old) }
     ensures frame { Frame S.StringView s.old s.new }
 {
-    let count = bytes.len();
-    if count > s.capacity() {
+    if bytes.len() > s.capacity() {
         return Err(StringModificationError::InsertWouldExceedCapacity);
     }
-    let place = first_bad(bytes);
-    if place != count {
+    if let Some(place) = first_bad(bytes) {
         return Err(StringModificationError::InvalidCharacter { place });
     }
     clear(s);
@@ -78,21 +76,21 @@ pub fn from_bytes_truncated<S: StringView>(
     s: &mut S,
     bytes: &[u8],
 ) -> Result<(), StringModificationError>
-    ensures answer { answered told result ≡ first_fail tt (characters (take (S.StringView.room s.old) bytes.now) ∷ []) }
-    ensures text { S.StringView.seq s.new ≡ (if is_ok result then take (S.StringView.room s.old) bytes.now else S.StringView.seq s.old) }
+    ensures answer { answered told result ≡ first_fail tt (characters (take (S.room s.old) bytes.now) ∷ []) }
+    ensures text { S.seq s.new ≡ (if is_ok result then take (S.room s.old) bytes.now else S.seq s.old) }
     ensures frame { Frame S.StringView s.old s.new }
 {
     let end = bytes.len().min(s.capacity());
-    from_bytes(s, &bytes[0..end])
+    from_bytes(s, &bytes[..end])
 }
 
 // Makes the bytes before a slot's first zero the text. Of a slot longer than that, the first capacity + 1 bytes
 // are looked at, and all of them are taken where none is zero.
 pub fn from_c_str<S: StringView>(s: &mut S, slot: &[u8]) -> Result<(), StringModificationError>
-    ensures answer { answered told result ≡ first_fail tt (loading (S.StringView.room s.old) (terminated (S.StringView.room s.old) slot.now)) }
-    ensures text { S.StringView.seq s.new ≡ (if is_ok result then terminated (S.StringView.room s.old) slot.now else S.StringView.seq s.old) }
+    ensures answer { answered told result ≡ first_fail tt (loading (S.room s.old) (terminated (S.room s.old) slot.now)) }
+    ensures text { S.seq s.new ≡ (if is_ok result then terminated (S.room s.old) slot.now else S.seq s.old) }
     ensures frame { Frame S.StringView s.old s.new }
 {
     let end = strnlen(slot, s.capacity() + 1);
-    from_bytes(s, &slot[0..end])
+    from_bytes(s, &slot[..end])
 }

@@ -8,11 +8,5 @@ pub fn strnlen(bytes: &[u8], len: usize) -> usize
     ensures first { FirstAt is_nul (take len bytes.now) result }
     ensures bound { result ≤ length bytes.now }
 {
-    let end = len.min(bytes.len());
-    for i in 0..end {
-        if bytes[i] == 0 {
-            return i;
-        }
-    }
-    end
+    bytes.iter().take(len).take_while(|b| **b != 0).count()
 }

@@ -1,132 +1,81 @@
 #![tactic(auto)]
 
-ghost use Rattle.std.specs.Prelude.{◌≡◌, ◌+◌, ◌<◌, ◌≤◌, length, Decides, slice_index};
-ghost use Rattle.std.specs.Ordering.{MatchOrdering};
+ghost use Rattle.std.specs.Prelude.{◌≡◌, ◌↔◌, IsTrue, length, if◌then◌else◌};
+ghost use Rattle.string_view.specs.Sequences.{removed};
 ghost use Rattle.string_view.specs.Views.{Frame};
 ghost use Rattle.string_search.specs.Order.{Compared, TotalOrder};
 ghost use Rattle.string_search.specs.Search.{Stands, First, Last, StrippedFront, StrippedEnd};
 
 use std::cmp::Ordering;
 use string_view::StringView;
+use string_view::bytes::{bytes_from, bytes_of};
 
 // Whether the pattern stands at the place.
 fn stands_at<S: StringView>(s: &S, bytes: &[u8], place: usize) -> bool
-    requires within { place + length bytes.now ≤ length (S.StringView.seq s.now) }
-    requires short { place + length bytes.now ≤ 255 }
-    ensures { Decides result (Stands (S.StringView.seq s.now) bytes.now place) }
+    ensures { IsTrue result ↔ Stands (S.seq s.now) bytes.now place }
 {
-    for k in 0..bytes.len() {
-        let here = s.at(place + k);
-        if let Some(b) = here {
-            if b != bytes[k] {
-                return false;
-            }
-        }
-    }
-    true
+    // behind the text not even the empty pattern stands
+    place <= s.len()
+        && bytes_from(s, place)
+            .take(bytes.len())
+            .eq(bytes.iter().copied())
 }
 
 // The first place at which the pattern stands.
 pub fn find<S: StringView>(s: &S, bytes: &[u8]) -> Option<usize>
-    ensures answer { First (Stands (S.StringView.seq s.now) bytes.now) result }
+    ensures answer { First (Stands (S.seq s.now) bytes.now) result }
 {
-    let len = s.len();
-    let count = bytes.len();
-    if count > len {
-        return None;
-    }
-    for place in 0..len - count + 1 {
-        if stands_at(s, bytes, place) {
-            return Some(place);
-        }
-    }
-    None
+    let last = s.len().checked_sub(bytes.len())?;
+    (0..last + 1).find(|place| stands_at(s, bytes, *place))
 }
 
 // The last place at which the pattern stands.
 pub fn rfind<S: StringView>(s: &S, bytes: &[u8]) -> Option<usize>
-    ensures answer { Last (Stands (S.StringView.seq s.now) bytes.now) result }
+    ensures answer { Last (Stands (S.seq s.now) bytes.now) result }
 {
-    let len = s.len();
-    let count = bytes.len();
-    if count > len {
-        return None;
-    }
-    let mut end = len - count + 1;
-    while end > 0 {
-        end -= 1;
-        if stands_at(s, bytes, end) {
-            return Some(end);
-        }
-    }
-    None
+    let last = s.len().checked_sub(bytes.len())?;
+    (0..last + 1).rfind(|place| stands_at(s, bytes, *place))
+}
+
+// Removes the pattern at the place, if it stands there.
+fn strip_at<S: StringView>(s: &mut S, bytes: &[u8], place: usize) -> bool
+    ensures answer { IsTrue result ↔ Stands (S.seq s.old) bytes.now place }
+    ensures text { S.seq s.new ≡ (if result then removed place (length bytes.now) (S.seq s.old) else S.seq s.old) }
+    ensures frame { Frame S.StringView s.old s.new }
+{
+    stands_at(s, bytes, place) && s.take(place, bytes.len())
 }
 
 // Removes the pattern from the front, if the text starts with it.
 pub fn strip_prefix<S: StringView>(s: &mut S, bytes: &[u8]) -> bool
-    ensures text { StrippedFront result (S.StringView.seq s.old) bytes.now (S.StringView.seq s.new) }
+    ensures text { StrippedFront result (S.seq s.old) bytes.now (S.seq s.new) }
     ensures frame { Frame S.StringView s.old s.new }
 {
-    let count = bytes.len();
-    if count > s.len() {
-        return false;
-    }
-    if !stands_at(s, bytes, 0) {
-        return false;
-    }
-    s.take(0, count);
-    true
+    strip_at(s, bytes, 0)
 }
 
 // Removes the pattern from the end, if the text ends with it.
 pub fn strip_suffix<S: StringView>(s: &mut S, bytes: &[u8]) -> bool
-    ensures text { StrippedEnd result (S.StringView.seq s.old) bytes.now (S.StringView.seq s.new) }
+    ensures text { StrippedEnd result (S.seq s.old) bytes.now (S.seq s.new) }
     ensures frame { Frame S.StringView s.old s.new }
 {
-    let len = s.len();
-    let count = bytes.len();
-    if count > len {
+    let Some(place) = s.len().checked_sub(bytes.len()) else {
         return false;
-    }
-    let place = len - count;
-    if !stands_at(s, bytes, place) {
-        return false;
-    }
-    s.take(place, count);
-    true
-}
-
-// How the two bytes at a place compare.
-fn compare_at<S: StringView, T: StringView>(a: &S, b: &T, place: usize) -> Ordering
-    requires first { place < length (S.StringView.seq a.now) }
-    requires second { place < length (T.StringView.seq b.now) }
-    ensures { MatchOrdering result (slice_index (S.StringView.seq a.now) place < slice_index (T.StringView.seq b.now) place) (slice_index (S.StringView.seq a.now) place ≡ slice_index (T.StringView.seq b.now) place) (slice_index (T.StringView.seq b.now) place < slice_index (S.StringView.seq a.now) place) }
-{
-    match (a.at(place), b.at(place)) {
-        (Some(x), Some(y)) => x.cmp(&y),
-        _ => Ordering::Equal,
-    }
+    };
+    strip_at(s, bytes, place)
 }
 
 // The order of two texts by their bytes. A proper start comes first.
 pub fn compare<S: StringView, T: StringView>(a: &S, b: &T) -> Ordering
-    ensures answer { Compared (S.StringView.seq a.now) (T.StringView.seq b.now) result }
+    ensures answer { Compared (S.seq a.now) (T.seq b.now) result }
     ensures total { TotalOrder }
 {
-    let first = a.len();
-    let second = b.len();
-    for place in 0..first.min(second) {
-        match compare_at(a, b, place) {
-            Ordering::Equal => {}
-            unequal => return unequal,
-        }
-    }
-    first.cmp(&second)
+    bytes_of(a).cmp(bytes_of(b))
 }
 
 // Whether two texts are the same.
 pub fn same<S: StringView, T: StringView>(a: &S, b: &T) -> bool
-    ensures answer { Decides result (S.StringView.seq a.now ≡ T.StringView.seq b.now) }
+    ensures answer { IsTrue result ↔ (S.seq a.now ≡ T.seq b.now) }
 {
-    a.len() == b.len() && compare(a, b).is_eq()
+    bytes_of(a).eq(bytes_of(b))
 }

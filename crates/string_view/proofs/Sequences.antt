@@ -1,3 +1,4 @@
+<<<<<<< HEAD
 use Rattle.std.proofs.Common.{◌≡◌, ℕ, ◌+◌, ◌≤◌, List, ◌++◌, length, take, arith}
 use Rattle.std.proofs.lemmas.List.{append-nil, drop_all, take_all}
 use Rattle.string_view.specs.Sequences.{inserted, removed}
@@ -5,6 +6,11 @@ use Rattle.string_view.specs.Sequences.{inserted, removed}
 -- what is removed up to the end leaves the front
 pub removed_end : (p n : ℕ) (s : List ℕ) → length s ≤ p + n → removed p n s ≡ take p s
 removed_end p n s h = grind (arith, drop_all, append-nil)
+=======
+use Rattle.std.proofs.Common.{◌≡◌, ℕ, ◌≤◌, List, ◌++◌, length, drop, ap, ◌∙◌}
+use Rattle.std.proofs.lemmas.List.{append-nil, drop_all, take_all}
+use Rattle.string_view.specs.Sequences.{inserted}
+>>>>>>> 063f46a644339baad4c35fe2cc30f2fad4940ee4
 
 -- what is inserted at the end follows the text
 pub inserted_end : (n : ℕ) (b s : List ℕ) → length s ≤ n → inserted n b s ≡ s ++ b

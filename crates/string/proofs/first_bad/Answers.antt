@@ -1,25 +1,10 @@
-use Rattle.std.proofs.Common.{◌≡◌, true, false, not, length, get_or, sym, ◌∙◌, inl, inr, arith}
-use Rattle.std.proofs.lemmas.Bool.Decides.{nat_tests}
+use Rattle.std.proofs.Common.{length, not, rules, sym, arith}
+use Rattle.std.proofs.lemmas.List.Sums.{position_or_len_is}
 use Rattle.string_view.specs.Characters.{is_character}
-use Rattle.string_view.proofs.Places.{first_at, before_here, before_more, before_all}
 use Rattle.string.proofs.first_bad.Goals as goal
 
-pub returns-then-b-eq0 : goal.returns-then-b-eq0
-returns-then-b-eq0 c =
-    let xs = c.args.bytes.now in
-    let e : not (is_character (get_or xs c.loop-i.i 0)) ≡ true = elim c.then-b-eq0.either [ inl z ↦ grind (arith, nat_tests) | inr z ↦ grind (arith, nat_tests) ] in
-    let p = before_here (λ b. not (is_character b)) xs c.loop-i.i c.loop-i.invariant (omega arith) e in
-    record { place = p; first = first_at (λ b. not (is_character b)) xs c.loop-i.i p }
+pub returns-then-b-eq0-clause-place : goal.returns-then-b-eq0-clause-place
+returns-then-b-eq0-clause-place c = sym (position_or_len_is (λ b. not (is_character b)) c.args.bytes.now c.loop-i.i 0 (omega arith) (search rules) (search rules))
 
-pub loop-i-preserved : goal.loop-i-preserved
-loop-i-preserved c =
-    let xs = c.args.bytes.now in
-    let e : not (is_character (get_or xs c.loop-i.i 0)) ≡ false = grind (arith, nat_tests) in
-    before_more (λ b. not (is_character b)) xs c.loop-i.i c.loop-i.invariant (omega arith) e
-
-pub returns : goal.returns
-returns c =
-    let xs = c.args.bytes.now in
-    let n : c.loop-i.i ≡ length xs = omega arith in
-    let p = sym n ∙ before_all (λ b. not (is_character b)) xs c.loop-i.i c.loop-i.invariant (omega arith) in
-    record { place = p; first = first_at (λ b. not (is_character b)) xs (length xs) p }
+pub returns-clause-place : goal.returns-clause-place
+returns-clause-place c = sym (position_or_len_is (λ b. not (is_character b)) c.args.bytes.now (length c.args.bytes.now) 0 (omega arith) (search rules) (search rules))

@@ -1,12 +1,11 @@
-use Rattle.std.proofs.Common.{not}
+use Rattle.std.proofs.Common.{◌≡◌, ◌++◌, take, drop, filter, not}
 use Rattle.string_view.specs.Views.{Frame}
-use Rattle.string.proofs.Keeps.{KeptFrom}
 use Rattle.string.proofs.retain.Given as goal
 
-abbrev pub invariant-loop-end : goal.invariant-loop-end
-invariant-loop-end g l =
-    KeptFrom (λ b. not (g.P.Pick.picked l.pick b)) (g.S.StringView.seq l.initial.s) l.end (g.S.StringView.seq l.s)
-    × Frame g.S.StringView l.initial.s l.s
-
-abbrev pub decreases-loop-end : goal.decreases-loop-end
-decreases-loop-end g l = l.end
+-- the bytes before the place stand as they did, and behind them those that stay
+abbrev pub invariant-loop-place : goal.invariant-loop-place
+invariant-loop-place g l =
+    record {
+      text : g.S.StringView.seq l.s ≡ take l.place (g.S.StringView.seq l.initial.s) ++ filter (λ b. not (g.P.Pick.picked l.pick b)) (drop l.place (g.S.StringView.seq l.initial.s));
+      frame : Frame g.S.StringView l.initial.s l.s;
+    }

@@ -1,10 +1,15 @@
-use Rattle.std.proofs.Common.{arith, below_more}
-use Rattle.std.proofs.lemmas.Bool.{both_ways}
+use Rattle.std.proofs.Common.{ℕ, ◌<◌, ◌≤◌, Option, Some, None, MatchOption, arith, rules, tests}
+use Rattle.std.proofs.lemmas.Iterator.{first_from_Range}
+use Rattle.string_search.specs.Search.{Stands, First}
 use Rattle.string_search.proofs.find.Goals as goal
 
-pub loop-place-preserved : goal.loop-place-preserved
-loop-place-preserved g c =
-    below_more _ _ c.loop-place.invariant (λ s. both_ways c.stands_at.result c.if-stands_at.false (c.stands_at.ensures.1 s))
+-- the first below n is the first of all, where P holds of nothing from n on
+first_of_all : (P : ℕ → Type 0) (n : ℕ) (r : Option ℕ) → MatchOption r ((k : ℕ) → 0 ≤ k → k < n → P k → ⊥) (λ i. (0 ≤ i) × (i < n) × P i × ((k : ℕ) → 0 ≤ k → k < i → P k → ⊥)) → ((k : ℕ) → P k → k < n) → First P r
+first_of_all P n None h below = λ k p. h k (omega arith) (below k p) p
+first_of_all P n (Some i) h below = (h.2, λ k l. h.3 k (omega arith) l)
 
 pub returns : goal.returns
-returns g c = record { answer = λ q s. c.loop-place.invariant q (omega (arith, s.within)) s }
+returns g c =
+    let P = Stands (g.S.StringView.seq c.args.s.now) c.args.bytes.now in
+    let h = first_from_Range _ _ _ c.find.result P (λ k. P k → ⊥) c.find.ensures.ran (λ x q k. search (rules, tests)) (λ x q k. search (rules, tests)) in
+    record { answer = first_of_all P _ _ h (λ k p. omega (arith, p.within, c.in_ok-last.ensures)) }
