@@ -1,6 +1,6 @@
 #![tactic(auto)]
 
-ghost use Rattle.std.specs.Prelude.{◌≡◌, ◌≤◌, min, []};
+ghost use Rattle.std.specs.Prelude.{◌≡◌, ◌≤◌, min, max, [], length};
 
 use cells::{insert_into, remove_from};
 use string_view::StringView;
@@ -31,17 +31,18 @@ impl StaticString {
         }
     }
 
-    // The text of any storage, by value, at the largest capacity.
+    // A copy of any storage: its text, and its capacity, or the text's length where that is more.
     pub fn copy_of<S: StringView>(s: &S) -> StaticString
-        ensures room { room_of result ≡ 255 }
+        ensures room { room_of result ≡ max (S.room s.now) (length (S.seq s.now)) }
         ensures text { text_of result ≡ S.seq s.now }
     {
+        let len = s.len();
         let mut data = [0; 255];
         copy_bytes(s, &mut data);
         StaticString {
             data,
-            capacity: 255,
-            len: s.len() as u8,
+            capacity: s.capacity().max(len) as u8,
+            len: len as u8,
         }
     }
 

@@ -6,4 +6,4 @@ pub returns-clause-text : goal.returns-clause-text
 returns-clause-text g c =
     let v = g.S.StringView in
     let s = c.args.s.now in
-    read_back (v.seq s) (replicate 255 0) _ c.len.result c.copy_bytes.ensures.cells c.len.ensures.answer (omega (arith, v.short s))
+    read_back (v.seq s) (replicate 255 0) _ c.len-len.result c.copy_bytes.ensures.cells c.len-len.ensures.answer (omega (arith, v.short s))
