@@ -18,7 +18,7 @@ pub fn decoded(heap: Global, text: &str) -> anyhow::Result<Vec<u8>> {
     Ok(bytes)
 }
 
-// The text of a storage as it would stand in a line.
+// The text of a storage as it would stand in a line. The library's `escape_ascii` has escapes that a line has not.
 #[derive(Drop)]
 pub struct Encoded<'a, S>(pub &'a S);
 

@@ -27,7 +27,7 @@ const INVALID: SemanticStringError = SemanticStringError::InvalidContent;
 
 const BEYOND: SemanticStringError = SemanticStringError::PositionOutOfRange;
 
-// The text is the bytes.
+// The text is the bytes, as `as_bytes` writes them, and no cell behind them is written.
 fn reads<S: StringView, R: SemanticStringAccessor>(
     rt: &impl Abort,
     text: &SemanticString<S, R>,
