@@ -5,10 +5,6 @@ use Rattle.string_view.specs.Sequences.{inserted, removed}
 abbrev pub usable : ℕ → List ℕ → ℕ
 usable c xs = min (min c (length xs)) 255
 
--- the cells xs, once the k cells at p are written over those at q
-abbrev pub moving : ℕ → ℕ → ℕ → List ℕ → List ℕ
-moving p q k xs = take q xs ++ (take k (drop p xs) ++ drop (q + k) xs)
-
 -- the cells xs, once the bytes b are put into the text of their first n at p: the cells behind the new text stay
 abbrev pub inserting : ℕ → ℕ → List ℕ → List ℕ → List ℕ
 inserting n p b xs = inserted p b (take n xs) ++ drop (n + length b) xs

@@ -26,25 +26,22 @@ impl<S> Narrow<S> {
     pub fn into_inner(self) -> S
         ensures answer { result ≡ self.inner }
     {
-        let Narrow { inner, .. } = self;
-        inner
+        self.inner
     }
 }
 
 impl<S: StringView> StringView for Narrow<S> {
-    ghost room = { λ s. min s.n (S.StringView.room s.inner) };
+    ghost room = { λ s. min s.n (S.room s.inner) };
 
-    ghost seq = { λ s. S.StringView.seq s.inner };
+    ghost seq = { λ s. S.seq s.inner };
 
-    ghost beyond = { λ s. S.StringView.beyond s.inner };
+    ghost beyond = { λ s. S.beyond s.inner };
 
-    ghost fixed = { λ s. s.n ∷ (S.StringView.room s.inner ∷ S.StringView.fixed s.inner) };
+    ghost fixed = { λ s. s.n ∷ (S.room s.inner ∷ S.fixed s.inner) };
 
-    ghost closed = { λ s. S.StringView.closed s.inner };
+    ghost small = { λ s. min_small s.n (S.room s.inner) (S.small s.inner) };
 
-    ghost small = { λ s. min_small s.n (S.StringView.room s.inner) (S.StringView.small s.inner) };
-
-    ghost short = { λ s. S.StringView.short s.inner };
+    ghost short = { λ s. S.short s.inner };
 
     fn capacity(&self) -> usize {
         self.n.min(self.inner.capacity())

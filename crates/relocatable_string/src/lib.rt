@@ -1,12 +1,7 @@
 #![tactic(auto)]
 
-ghost use Rattle.std.specs.Prelude.{◌≡◌, ◌+◌, min, [], ◌∷◌, length, drop, if◌then◌else◌};
-ghost use Rattle.cells.specs.Texts.{inserting, removing};
-ghost use Rattle.string_view.specs.Checks.{first_fail, answered};
-ghost use Rattle.string_view.specs.Frames.{Kept};
-ghost use Rattle.string_view.specs.Refusals.{region_told};
-ghost use Rattle.string_view.specs.Sequences.{inserted, removed, insert_fits, remove_fits};
-ghost use Rattle.relocatable_string.specs.Region.{needed, enough, used, room_in, wiped, announced, cells_of, room_of, text_of, used_of, beyond_of, fixed_of, closed_of, laid_out, is_small, is_short};
+ghost use Rattle.std.specs.Prelude.{◌≡◌, ◌+◌, ◌≤◌, min, [], ◌∷◌, length, drop, if◌then◌else◌};
+ghost use Rattle.relocatable_string.specs.Region.{needed, enough, used, room_in, closed_in, wiped, laid_out};
 
 use cells::{insert_into, remove_from};
 use string_view::StringView;
@@ -16,6 +11,7 @@ use string_view::error::RegionTooShort;
 #[derive(Drop)]
 pub struct RelocatableStringUninit {
     capacity: u8,
+    ghost small: { capacity ≤ 255 },
 }
 
 // A string in cells that its owner lends. Its first cells hold the text, the others up to cell number
@@ -26,9 +22,14 @@ pub struct RelocatableString<'a> {
     region: &'a mut [u8],
     capacity: u8,
     len: u8,
+    ghost small: { capacity ≤ 255 },
+    ghost within: { len ≤ room_in capacity (length region.now) },
+    ghost closed: { closed_in capacity len region.now },
 }
 
 impl RelocatableString<'_> {
+    ghost use Rattle.relocatable_string.specs.Relocatable.{announced, cells_of, text_of, used_of, beyond_of};
+
     // Announces a string. A capacity above 255 becomes 255.
     pub fn new_uninit(capacity: usize) -> RelocatableStringUninit
         ensures answer { announced result ≡ min capacity 255 }
@@ -42,6 +43,7 @@ impl RelocatableString<'_> {
     pub const fn const_memory_size(capacity: usize) -> usize
         ensures answer { result ≡ needed (min capacity 255) }
     {
+        // `min` is no `const fn`
         if capacity < 255 { capacity + 1 } else { 256 }
     }
 
@@ -52,17 +54,20 @@ impl RelocatableString<'_> {
         Self::const_memory_size(capacity)
     }
 
-    // The whole region. Of a string that `init` made, and whatever calls came since, it is the text, zeros up to
-    // cell number `capacity`, and what lies beyond.
+    // The whole region: the text, zeros up to cell number `capacity`, and what lies beyond.
     pub fn cells(&self) -> &[u8]
         ensures cells { result.now ≡ cells_of self.now }
-        ensures layout { closed_of self.now → result.now ≡ laid_out (used_of self.now) (text_of self.now) (beyond_of self.now) }
+        ensures layout { result.now ≡ laid_out (used_of self.now) (text_of self.now) (beyond_of self.now) }
     {
         self.region
     }
 }
 
 impl RelocatableStringUninit {
+    ghost use Rattle.string_view.specs.Checks.{first_fail, answered};
+    ghost use Rattle.string_view.specs.Refusals.{region_told};
+    ghost use Rattle.relocatable_string.specs.Relocatable.{announced, cells_of, room_of, text_of, beyond_of, fixed_of};
+
     // Whether a region has the cells that `init` needs.
     pub fn fits(&self, region: &[u8]) -> Result<(), RegionTooShort>
         ensures answer { answered region_told result ≡ first_fail tt (enough (announced self.now) region.now ∷ []) }
@@ -81,23 +86,25 @@ impl RelocatableStringUninit {
         ensures cells { cells_of result ≡ wiped (announced self) region.old }
         ensures beyond { beyond_of result ≡ drop (used (announced self) (length region.old)) region.old }
         ensures fixed { fixed_of result ≡ region.entry.ghost_name ∷ (length region.old ∷ (announced self ∷ [])) }
-        ensures closed { closed_of result }
     {
-        let capacity = self.capacity;
-        let end = capacity as usize + 1;
+        let end = self.capacity as usize + 1;
         if end <= region.len() {
-            let first = &mut region[0..end];
-            first.fill(0);
+            region[..end].fill(0);
         }
         RelocatableString {
             region,
-            capacity,
+            capacity: self.capacity,
             len: 0,
         }
     }
 }
 
 impl<'a> StringView for RelocatableString<'a> {
+    ghost use Rattle.cells.specs.Texts.{inserting, removing};
+    ghost use Rattle.string_view.specs.Frames.{Kept};
+    ghost use Rattle.string_view.specs.Sequences.{inserted, removed, insert_fits, remove_fits};
+    ghost use Rattle.relocatable_string.specs.Relocatable.{cells_of, room_of, text_of, beyond_of, fixed_of, is_small, is_short};
+
     ghost room = { room_of };
 
     ghost seq = { text_of };
@@ -105,8 +112,6 @@ impl<'a> StringView for RelocatableString<'a> {
     ghost beyond = { beyond_of };
 
     ghost fixed = { fixed_of };
-
-    ghost closed = { closed_of };
 
     ghost small = { is_small };
 
@@ -122,30 +127,26 @@ impl<'a> StringView for RelocatableString<'a> {
     }
 
     fn len(&self) -> usize {
-        self.capacity().min(self.len as usize)
+        self.len as usize
     }
 
     fn at(&self, place: usize) -> Option<u8> {
-        if place < self.len() {
-            Some(self.region[place])
-        } else {
-            None
-        }
+        let text = &self.region[..self.len()];
+        text.get(place).copied()
     }
 
     // As the trait has it, and every cell of the region.
     fn put(&mut self, place: usize, bytes: &[u8]) -> bool
         ensures answer { result ≡ insert_fits (room_of self.old) (text_of self.old) place bytes.now }
         ensures text { text_of self.new ≡ (if result then inserted place bytes.now (text_of self.old) else text_of self.old) }
-        ensures frame { Kept room_of beyond_of fixed_of closed_of self.old self.new }
+        ensures frame { Kept room_of beyond_of fixed_of self.old self.new }
         ensures cells { cells_of self.new ≡ (if result then inserting (length (text_of self.old)) place bytes.now (cells_of self.old) else cells_of self.old) }
     {
         let capacity = self.capacity();
-        let len = self.len();
-        if !insert_into(self.region, capacity, len, place, bytes) {
+        if !insert_into(self.region, capacity, self.len as usize, place, bytes) {
             return false;
         }
-        self.len = (len + bytes.len()) as u8;
+        self.len += bytes.len() as u8;
         true
     }
 
@@ -153,14 +154,13 @@ impl<'a> StringView for RelocatableString<'a> {
     fn take(&mut self, place: usize, count: usize) -> bool
         ensures answer { result ≡ remove_fits (text_of self.old) place count }
         ensures text { text_of self.new ≡ (if result then removed place count (text_of self.old) else text_of self.old) }
-        ensures frame { Kept room_of beyond_of fixed_of closed_of self.old self.new }
+        ensures frame { Kept room_of beyond_of fixed_of self.old self.new }
         ensures cells { cells_of self.new ≡ (if result then removing (length (text_of self.old)) place count (cells_of self.old) else cells_of self.old) }
     {
-        let len = self.len();
-        if !remove_from(self.region, len, place, count) {
+        if !remove_from(self.region, self.len as usize, place, count) {
             return false;
         }
-        self.len = (len - count) as u8;
+        self.len -= count as u8;
         true
     }
 }

@@ -1,24 +1,13 @@
-use Rattle.std.proofs.Common.{◌≡◌, ℕ, ◌+◌, ◌-◌, ◌≤◌, Bool, true, false, cond, ltb, List, ◌++◌, length, get_or, take, drop, Some, None, Option, sym, refl, ap, ◌∙◌, inl, inr, arith}
+use Rattle.std.proofs.Common.{◌≤◌, ◌≡◌, ℕ, ◌-◌, Bool, true, false, List, ◌++◌, length, take, drop, sym, refl, ap, ◌∙◌, inl, inr, arith}
 use Rattle.std.proofs.lemmas.Slice.Eq.{bytes_eq-Decides}
 use Rattle.std.proofs.lemmas.List.Prefix.{front_rest, end_rest}
-use Rattle.std.proofs.lemmas.List.{length-append, length-take, length-drop, take_at, take-append-drop}
-use Rattle.std.proofs.lemmas.Bool.{cases_Bool, cond-true, cond-false, cond_both, lt-ltb, le-ltb}
+use Rattle.std.proofs.lemmas.List.{length-append, take_at, take-append-drop}
+use Rattle.std.proofs.lemmas.Bool.{cases_Bool, cond-true, cond-false}
 use Rattle.std.specs.Str.{bytes_eq}
-use Rattle.string_view.specs.Sequences.{removed, remove_fits, StandsAt}
 use Rattle.string_search.specs.Search.{StrippedFront, StrippedEnd}
-use Rattle.semantic_string.specs.Edits.{outcome, removal, front_strip, end_strip}
+use Rattle.semantic_string.specs.Edits.{outcome, front_strip, end_strip}
 
 -- what the plain edits promise is what they come to
-
-pub removal_is : (s : List ℕ) (p : ℕ) (o : Option ℕ) (t : List ℕ) → StandsAt s p o → t ≡ cond (ltb p (length s)) (removed p 1 s) s → outcome o t ≡ removal p s
-removal_is s p None t h e =
-    let beyond = le-ltb p (length s) h in
-    ap (outcome None) (e ∙ cond-false (ltb p (length s)) _ _ beyond) ∙ sym (cond-false (ltb p (length s)) (outcome (Some (get_or s p 0)) (removed p 1 s)) (outcome None s) beyond)
-removal_is s p (Some b) t h e =
-    let yes = lt-ltb p (length s) h.0 in
-    ap (λ x. outcome (Some x) t) h.1
-    ∙ ap (outcome (Some (get_or s p 0))) (e ∙ cond-true (ltb p (length s)) _ _ yes)
-    ∙ sym (cond-true (ltb p (length s)) (outcome (Some (get_or s p 0)) (removed p 1 s)) (outcome None s) yes)
 
 false_from : (b : Bool) → (b ≡ true → ⊥) → b ≡ false
 false_from b never = elim (cases_Bool b) [ inl t ↦ absurd (never t) | inr f ↦ f ]
@@ -46,21 +35,7 @@ end_strip_is false s p t h =
     (λ y. h.1 (take k s) (sym (take-append-drop k s) ∙ ap (λ z. take k s ++ z) ((bytes_eq-Decides (drop k s) p).0 y))) in
     ap (outcome false) h.0 ∙ sym (cond-false (bytes_eq (drop k s) p) (outcome true (take k s)) (outcome false s) unlike)
 
--- none of them makes a text longer
-
-removed_short : (p n : ℕ) (s : List ℕ) → length (removed p n s) ≤ length s
-removed_short p n s = omega (arith, length-append (take p s) (drop (p + n) s), length-take p s, length-drop (p + n) s)
-
-pub range_short : (p n : ℕ) (s : List ℕ) → length (cond (remove_fits s p n) (removed p n s) s) ≤ length s
-range_short p n s = cond_both (remove_fits s p n) (removed p n s) s (λ t. length t ≤ length s) (λ _. removed_short p n s) (λ _. omega arith)
-
-pub removal_short : (p : ℕ) (s : List ℕ) → length (removal p s).sequence ≤ length s
-removal_short p s = cond_both (ltb p (length s)) (outcome (Some (get_or s p 0)) (removed p 1 s)) (outcome None s) (λ o. length o.sequence ≤ length s) (λ _. removed_short p 1 s) (λ _. omega arith)
-
-pub front_strip_short : (p s : List ℕ) → length (front_strip p s).sequence ≤ length s
-front_strip_short p s = cond_both (bytes_eq (take (length p) s) p) (outcome true (drop (length p) s)) (outcome false s) (λ o. length o.sequence ≤ length s) (λ _. omega (arith, length-drop (length p) s)) (λ _. omega arith)
-
-pub end_strip_short : (p s : List ℕ) → length (end_strip p s).sequence ≤ length s
-end_strip_short p s =
-    let k = length s - length p in
-    cond_both (bytes_eq (drop k s) p) (outcome true (take k s)) (outcome false s) (λ o. length o.sequence ≤ length s) (λ _. omega (arith, length-take k s)) (λ _. omega arith)
+-- a strip makes no text longer
+pub front_strip_short : (b : Bool) (s p t : List ℕ) → StrippedFront b s p t → length t ≤ length s
+front_strip_short true s p t e = omega (arith, ap length e, length-append p t)
+front_strip_short false s p t h = omega (arith, ap length h.0)

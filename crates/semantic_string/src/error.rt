@@ -1,7 +1,7 @@
 ghost use Rattle.std.specs.Prelude.{◌≡◌};
 ghost use Rattle.semantic_string.specs.Refusals.{semantic_told, converted, passed_on};
 
-use string_view::error::StringModificationError;
+use string_view::error::{Numbered, StringModificationError};
 
 // Why a checked text is not set up, or an edit of it is refused.
 #[derive(Clone, Copy, PartialEq, Eq, Debug)]
@@ -14,11 +14,10 @@ pub enum SemanticStringError {
     PositionOutOfRange,
 }
 
-impl SemanticStringError {
-    // The number under which the refusal is known to crews and in files.
-    pub fn number(&self) -> u8
-        ensures answer { result ≡ (semantic_told self.now).number }
-    {
+impl Numbered for SemanticStringError {
+    ghost refusal = { semantic_told };
+
+    fn number(&self) -> u8 {
         match self {
             SemanticStringError::InvalidContent => 4,
             SemanticStringError::ExceedsMaximumLength(_) => 5,

@@ -1,6 +1,7 @@
 #![tactic(auto)]
 
-ghost use Rattle.std.specs.Prelude.{◌≡◌, ◌-◌, [], ◌∷◌, ◌++◌, length, is_ok, if◌then◌else◌, ◌==◌, nat_le};
+ghost use Rattle.std.specs.Prelude.{◌≡◌, ◌-◌, ◌≤◌, false, [], ◌∷◌, ◌++◌, length, is_ok, if◌then◌else◌, ◌==◌, nat_le};
+ghost use Rattle.static_string.specs.Fixed as fixed;
 ghost use Rattle.string_view.specs.Checks.{first_fail, answered};
 ghost use Rattle.string_view.specs.Refusals.{buffer_told};
 ghost use Rattle.string_view.specs.Sequences.{inserted};
@@ -10,9 +11,9 @@ ghost use Rattle.string_bytes.specs.Terminated.{terminated};
 ghost use Rattle.semantic_string.specs.Checks.{content, setting_up, inserting, pushing};
 ghost use Rattle.semantic_string.specs.Edits.{outcome, removal, range_removal, retention, truncation, front_strip, end_strip};
 ghost use Rattle.semantic_string.specs.Refusals.{semantic_told};
-ghost use Rattle.semantic_string.specs.Texts.{Settled, Checked, Sound, SetUp, set_up_as, text_of, room_of, bad_of};
 
 use rules::SemanticStringAccessor;
+use static_string::StaticString;
 use string::pick::Pick;
 use string::{insert_bytes, is_empty, is_full, remove, remove_range, retain, truncate};
 use string_bytes::utils::strnlen;
@@ -23,33 +24,32 @@ use string_view::error::BufferTooShort;
 
 pub mod error;
 mod normal;
-mod trial;
 
 use error::{SemanticStringError, passed_on};
-use trial::{is_invalid, trial_of};
 
-// A text that keeps a rule, over any storage and any rule. That it is valid and within its capacity cannot stand
-// in the type: set-up promises it, every edit keeps it, and no edit needs it.
+// A text that keeps a rule, over any storage and any rule: it is valid, and within its capacity.
 #[derive(Drop)]
-pub struct SemanticString<S, R> {
+pub struct SemanticString<S: StringView, R: SemanticStringAccessor> {
     storage: S,
     rule: R,
+    ghost valid: { R.bad_content rule (S.seq storage) ≡ false },
+    ghost fits: { length (S.seq storage) ≤ S.room storage },
 }
 
 impl<S: StringView + Drop, R: SemanticStringAccessor + Drop> SemanticString<S, R> {
+    ghost use Rattle.semantic_string.specs.Texts.{SetUp, set_up_as};
+
     // Makes the bytes the text of a storage, whatever it held. Where that is refused, the storage is used up.
     pub fn new(
         storage: S,
         rule: R,
         value: &[u8],
     ) -> Result<SemanticString<S, R>, SemanticStringError>
-        ensures answer { answered semantic_told (set_up_as result) ≡ first_fail tt (setting_up (R.SemanticStringAccessor.bad_content rule) (S.StringView.room storage) value.now) }
-        ensures text { SetUp S.StringView R.SemanticStringAccessor storage rule value.now result }
+        ensures answer { answered semantic_told (set_up_as result) ≡ first_fail tt (setting_up (R.bad_content rule) (S.room storage) value.now) }
+        ensures text { SetUp storage rule value.now result }
     {
         let mut storage = storage;
-        if let Err(error) = from_bytes(&mut storage, value) {
-            return Err(passed_on(error));
-        }
+        from_bytes(&mut storage, value).map_err(passed_on)?;
         if rule.is_invalid_content(value) {
             return Err(SemanticStringError::InvalidContent);
         }
@@ -63,8 +63,8 @@ impl<S: StringView + Drop, R: SemanticStringAccessor + Drop> SemanticString<S, R
         rule: R,
         slot: &[u8],
     ) -> Result<SemanticString<S, R>, SemanticStringError>
-        ensures answer { answered semantic_told (set_up_as result) ≡ first_fail tt (setting_up (R.SemanticStringAccessor.bad_content rule) (S.StringView.room storage) (terminated (S.StringView.room storage) slot.now)) }
-        ensures text { SetUp S.StringView R.SemanticStringAccessor storage rule (terminated (S.StringView.room storage) slot.now) result }
+        ensures answer { answered semantic_told (set_up_as result) ≡ first_fail tt (setting_up (R.bad_content rule) (S.room storage) (terminated (S.room storage) slot.now)) }
+        ensures text { SetUp storage rule (terminated (S.room storage) slot.now) result }
     {
         let end = strnlen(slot, storage.capacity() + 1);
         SemanticString::new(storage, rule, &slot[0..end])
@@ -72,6 +72,8 @@ impl<S: StringView + Drop, R: SemanticStringAccessor + Drop> SemanticString<S, R
 }
 
 impl<S: StringView, R: SemanticStringAccessor> SemanticString<S, R> {
+    ghost use Rattle.semantic_string.specs.Texts.{Settled, Checked, text_of, room_of, bad_of};
+
     // The storage, to ask.
     pub fn as_string(&self) -> &S
         ensures answer { result.now ≡ self.now.storage }
@@ -80,10 +82,10 @@ impl<S: StringView, R: SemanticStringAccessor> SemanticString<S, R> {
     }
 
     // Whether the rule allows the text that a trial came to.
-    fn check<T: StringView>(&self, trial: &T) -> Result<(), SemanticStringError>
-        ensures { answered semantic_told result ≡ first_fail tt (content (bad_of S.StringView R.SemanticStringAccessor self.now) (T.StringView.seq trial.now) ∷ []) }
+    fn check(&self, trial: &StaticString) -> Result<(), SemanticStringError>
+        ensures { answered semantic_told result ≡ first_fail tt (content (bad_of self.now) (fixed.text_of trial.now) ∷ []) }
     {
-        if is_invalid(&self.rule, trial) {
+        if self.rule.is_invalid_content(trial.as_slice()) {
             return Err(SemanticStringError::InvalidContent);
         }
         Ok(())
@@ -91,71 +93,67 @@ impl<S: StringView, R: SemanticStringAccessor> SemanticString<S, R> {
 
     // Writes the text into the first cells of the buffer, and answers how many bytes it is.
     pub fn as_bytes(&self, buffer: &mut [u8]) -> Result<usize, BufferTooShort>
-        ensures answer { answered buffer_told result ≡ first_fail (length (text_of S.StringView R.SemanticStringAccessor self.now)) (enough (text_of S.StringView R.SemanticStringAccessor self.now) buffer.old ∷ []) }
-        ensures cells { buffer.new ≡ (if is_ok result then written (text_of S.StringView R.SemanticStringAccessor self.now) buffer.old else buffer.old) }
+        ensures answer { answered buffer_told result ≡ first_fail (length (text_of self.now)) (enough (text_of self.now) buffer.old ∷ []) }
+        ensures cells { buffer.new ≡ (if is_ok result then written (text_of self.now) buffer.old else buffer.old) }
     {
         as_bytes(&self.storage, buffer)
     }
 
     // The storage's capacity.
     pub fn capacity(&self) -> usize
-        ensures answer { result ≡ room_of S.StringView R.SemanticStringAccessor self.now }
+        ensures answer { result ≡ room_of self.now }
     {
         self.storage.capacity()
     }
 
     // The first place at which the pattern stands.
     pub fn find(&self, bytes: &[u8]) -> Option<usize>
-        ensures answer { First (Stands (text_of S.StringView R.SemanticStringAccessor self.now) bytes.now) result }
+        ensures answer { First (Stands (text_of self.now) bytes.now) result }
     {
         find(&self.storage, bytes)
     }
 
     // The last place at which the pattern stands.
     pub fn rfind(&self, bytes: &[u8]) -> Option<usize>
-        ensures answer { Last (Stands (text_of S.StringView R.SemanticStringAccessor self.now) bytes.now) result }
+        ensures answer { Last (Stands (text_of self.now) bytes.now) result }
     {
         rfind(&self.storage, bytes)
     }
 
     // Whether no byte more fits.
     pub fn is_full(&self) -> bool
-        ensures answer { result ≡ nat_le (room_of S.StringView R.SemanticStringAccessor self.now) (length (text_of S.StringView R.SemanticStringAccessor self.now)) }
+        ensures answer { result ≡ nat_le (room_of self.now) (length (text_of self.now)) }
     {
         is_full(&self.storage)
     }
 
     // Whether there is no byte.
     pub fn is_empty(&self) -> bool
-        ensures answer { result ≡ (length (text_of S.StringView R.SemanticStringAccessor self.now) == 0) }
+        ensures answer { result ≡ (length (text_of self.now) == 0) }
     {
         is_empty(&self.storage)
     }
 
     // The number of bytes.
     pub fn len(&self) -> usize
-        ensures answer { result ≡ length (text_of S.StringView R.SemanticStringAccessor self.now) }
+        ensures answer { result ≡ length (text_of self.now) }
     {
         self.storage.len()
     }
 
     // Inserts a byte at a place.
     pub fn insert(&mut self, idx: usize, byte: u8) -> Result<(), SemanticStringError>
-        ensures edit { Settled S.StringView (inserting (bad_of S.StringView R.SemanticStringAccessor self.old) (room_of S.StringView R.SemanticStringAccessor self.old) (text_of S.StringView R.SemanticStringAccessor self.old) idx (byte ∷ [])) (outcome tt (inserted idx (byte ∷ []) (text_of S.StringView R.SemanticStringAccessor self.old))) self.old self.new result }
-        ensures sound { Sound S.StringView R.SemanticStringAccessor self.old → Sound S.StringView R.SemanticStringAccessor self.new }
+        ensures edit { Settled (inserting (bad_of self.old) (room_of self.old) (text_of self.old) idx (byte ∷ [])) (outcome tt (inserted idx (byte ∷ []) (text_of self.old))) self.old self.new result }
     {
         self.insert_bytes(idx, &[byte])
     }
 
     // Inserts bytes at a place.
     pub fn insert_bytes(&mut self, idx: usize, bytes: &[u8]) -> Result<(), SemanticStringError>
-        ensures edit { Settled S.StringView (inserting (bad_of S.StringView R.SemanticStringAccessor self.old) (room_of S.StringView R.SemanticStringAccessor self.old) (text_of S.StringView R.SemanticStringAccessor self.old) idx bytes.now) (outcome tt (inserted idx bytes.now (text_of S.StringView R.SemanticStringAccessor self.old))) self.old self.new result }
-        ensures sound { Sound S.StringView R.SemanticStringAccessor self.old → Sound S.StringView R.SemanticStringAccessor self.new }
+        ensures edit { Settled (inserting (bad_of self.old) (room_of self.old) (text_of self.old) idx bytes.now) (outcome tt (inserted idx bytes.now (text_of self.old))) self.old self.new result }
     {
-        let mut trial = trial_of(&self.storage);
-        if let Err(error) = insert_bytes(&mut trial, idx, bytes) {
-            return Err(passed_on(error));
-        }
+        let mut trial = StaticString::copy_of(&self.storage);
+        insert_bytes(&mut trial, idx, bytes).map_err(passed_on)?;
         self.check(&trial)?;
         self.storage.put(idx, bytes);
         Ok(())
@@ -163,8 +161,7 @@ impl<S: StringView, R: SemanticStringAccessor> SemanticString<S, R> {
 
     // Removes the last byte and answers it; none, if there is none.
     pub fn pop(&mut self) -> Result<Option<u8>, SemanticStringError>
-        ensures edit { Checked S.StringView R.SemanticStringAccessor (λ s. removal (length s - 1) s) self.old self.new result }
-        ensures sound { Sound S.StringView R.SemanticStringAccessor self.old → Sound S.StringView R.SemanticStringAccessor self.new }
+        ensures edit { Checked (λ s. removal (length s - 1) s) self.old self.new result }
     {
         let last = self.len().saturating_sub(1);
         self.remove(last)
@@ -172,16 +169,14 @@ impl<S: StringView, R: SemanticStringAccessor> SemanticString<S, R> {
 
     // Inserts a byte at the end.
     pub fn push(&mut self, byte: u8) -> Result<(), SemanticStringError>
-        ensures edit { Settled S.StringView (pushing (bad_of S.StringView R.SemanticStringAccessor self.old) (room_of S.StringView R.SemanticStringAccessor self.old) (text_of S.StringView R.SemanticStringAccessor self.old) (byte ∷ [])) (outcome tt ((text_of S.StringView R.SemanticStringAccessor self.old) ++ (byte ∷ []))) self.old self.new result }
-        ensures sound { Sound S.StringView R.SemanticStringAccessor self.old → Sound S.StringView R.SemanticStringAccessor self.new }
+        ensures edit { Settled (pushing (bad_of self.old) (room_of self.old) (text_of self.old) (byte ∷ [])) (outcome tt (text_of self.old ++ (byte ∷ []))) self.old self.new result }
     {
         self.push_bytes(&[byte])
     }
 
     // Inserts bytes at the end.
     pub fn push_bytes(&mut self, bytes: &[u8]) -> Result<(), SemanticStringError>
-        ensures edit { Settled S.StringView (pushing (bad_of S.StringView R.SemanticStringAccessor self.old) (room_of S.StringView R.SemanticStringAccessor self.old) (text_of S.StringView R.SemanticStringAccessor self.old) bytes.now) (outcome tt ((text_of S.StringView R.SemanticStringAccessor self.old) ++ bytes.now)) self.old self.new result }
-        ensures sound { Sound S.StringView R.SemanticStringAccessor self.old → Sound S.StringView R.SemanticStringAccessor self.new }
+        ensures edit { Settled (pushing (bad_of self.old) (room_of self.old) (text_of self.old) bytes.now) (outcome tt (text_of self.old ++ bytes.now)) self.old self.new result }
     {
         let len = self.len();
         self.insert_bytes(len, bytes)
@@ -189,10 +184,9 @@ impl<S: StringView, R: SemanticStringAccessor> SemanticString<S, R> {
 
     // Removes the byte at a place and answers it; none, if none stands there.
     pub fn remove(&mut self, idx: usize) -> Result<Option<u8>, SemanticStringError>
-        ensures edit { Checked S.StringView R.SemanticStringAccessor (removal idx) self.old self.new result }
-        ensures sound { Sound S.StringView R.SemanticStringAccessor self.old → Sound S.StringView R.SemanticStringAccessor self.new }
+        ensures edit { Checked (removal idx) self.old self.new result }
     {
-        let mut trial = trial_of(&self.storage);
+        let mut trial = StaticString::copy_of(&self.storage);
         let byte = remove(&mut trial, idx);
         self.check(&trial)?;
         let _ = remove(&mut self.storage, idx);
@@ -201,10 +195,9 @@ impl<S: StringView, R: SemanticStringAccessor> SemanticString<S, R> {
 
     // Removes `len` bytes at a place, if so many stand there.
     pub fn remove_range(&mut self, idx: usize, len: usize) -> Result<(), SemanticStringError>
-        ensures edit { Checked S.StringView R.SemanticStringAccessor (range_removal idx len) self.old self.new result }
-        ensures sound { Sound S.StringView R.SemanticStringAccessor self.old → Sound S.StringView R.SemanticStringAccessor self.new }
+        ensures edit { Checked (range_removal idx len) self.old self.new result }
     {
-        let mut trial = trial_of(&self.storage);
+        let mut trial = StaticString::copy_of(&self.storage);
         remove_range(&mut trial, idx, len);
         self.check(&trial)?;
         remove_range(&mut self.storage, idx, len);
@@ -213,10 +206,9 @@ impl<S: StringView, R: SemanticStringAccessor> SemanticString<S, R> {
 
     // Removes the bytes for which the pick says yes.
     pub fn retain<P: Pick>(&mut self, pick: &P) -> Result<(), SemanticStringError>
-        ensures edit { Checked S.StringView R.SemanticStringAccessor (retention (P.Pick.picked pick.now)) self.old self.new result }
-        ensures sound { Sound S.StringView R.SemanticStringAccessor self.old → Sound S.StringView R.SemanticStringAccessor self.new }
+        ensures edit { Checked (retention (P.picked pick.now)) self.old self.new result }
     {
-        let mut trial = trial_of(&self.storage);
+        let mut trial = StaticString::copy_of(&self.storage);
         retain(&mut trial, pick);
         self.check(&trial)?;
         retain(&mut self.storage, pick);
@@ -224,11 +216,11 @@ impl<S: StringView, R: SemanticStringAccessor> SemanticString<S, R> {
     }
 
     // Removes the pattern from the front, if the text starts with it, and answers whether it did.
+    #[tactic(auto, using(crate::proofs::Edits::front_strip_is, crate::proofs::Edits::front_strip_short))]
     pub fn strip_prefix(&mut self, bytes: &[u8]) -> Result<bool, SemanticStringError>
-        ensures edit { Checked S.StringView R.SemanticStringAccessor (front_strip bytes.now) self.old self.new result }
-        ensures sound { Sound S.StringView R.SemanticStringAccessor self.old → Sound S.StringView R.SemanticStringAccessor self.new }
+        ensures edit { Checked (front_strip bytes.now) self.old self.new result }
     {
-        let mut trial = trial_of(&self.storage);
+        let mut trial = StaticString::copy_of(&self.storage);
         let found = strip_prefix(&mut trial, bytes);
         self.check(&trial)?;
         strip_prefix(&mut self.storage, bytes);
@@ -236,11 +228,11 @@ impl<S: StringView, R: SemanticStringAccessor> SemanticString<S, R> {
     }
 
     // Removes the pattern from the end, if the text ends with it, and answers whether it did.
+    #[tactic(auto, using(crate::proofs::Edits::end_strip_is))]
     pub fn strip_suffix(&mut self, bytes: &[u8]) -> Result<bool, SemanticStringError>
-        ensures edit { Checked S.StringView R.SemanticStringAccessor (end_strip bytes.now) self.old self.new result }
-        ensures sound { Sound S.StringView R.SemanticStringAccessor self.old → Sound S.StringView R.SemanticStringAccessor self.new }
+        ensures edit { Checked (end_strip bytes.now) self.old self.new result }
     {
-        let mut trial = trial_of(&self.storage);
+        let mut trial = StaticString::copy_of(&self.storage);
         let found = strip_suffix(&mut trial, bytes);
         self.check(&trial)?;
         strip_suffix(&mut self.storage, bytes);
@@ -249,10 +241,9 @@ impl<S: StringView, R: SemanticStringAccessor> SemanticString<S, R> {
 
     // Cuts the text to a length, if that is shorter.
     pub fn truncate(&mut self, new_len: usize) -> Result<(), SemanticStringError>
-        ensures edit { Checked S.StringView R.SemanticStringAccessor (truncation new_len) self.old self.new result }
-        ensures sound { Sound S.StringView R.SemanticStringAccessor self.old → Sound S.StringView R.SemanticStringAccessor self.new }
+        ensures edit { Checked (truncation new_len) self.old self.new result }
     {
-        let mut trial = trial_of(&self.storage);
+        let mut trial = StaticString::copy_of(&self.storage);
         truncate(&mut trial, new_len);
         self.check(&trial)?;
         truncate(&mut self.storage, new_len);

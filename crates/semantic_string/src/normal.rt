@@ -5,13 +5,11 @@ ghost use Rattle.string_view.specs.Refusals.{buffer_told};
 ghost use Rattle.string_search.specs.Order.{Compared, TotalOrder};
 ghost use Rattle.string_bytes.specs.Buffers.{enough, written};
 ghost use Rattle.semantic_string.specs.Normal.{normal_of};
-ghost use Rattle.semantic_string.specs.Texts.{Sound};
 
 use crate::SemanticString;
 use rules::{NormalForm, SemanticStringAccessor};
 use static_string::StaticString;
 use std::cmp::Ordering;
-use string_bytes::as_bytes;
 use string_search::{compare, same};
 use string_view::StringView;
 use string_view::error::BufferTooShort;
@@ -20,19 +18,17 @@ use string_view::error::BufferTooShort;
 impl<S: StringView, R: NormalForm> SemanticString<S, R> {
     // Writes the normal form into the first cells of the buffer, and answers how many bytes it is.
     pub fn normalize(&self, buffer: &mut [u8]) -> Result<usize, BufferTooShort>
-        ensures answer { answered buffer_told result ≡ first_fail (length (normal_of S.StringView R.NormalForm.own self.now)) (enough (normal_of S.StringView R.NormalForm.own self.now) buffer.old ∷ []) }
-        ensures cells { buffer.new ≡ (if is_ok result then written (normal_of S.StringView R.NormalForm.own self.now) buffer.old else buffer.old) }
-        ensures valid { Sound S.StringView R.SemanticStringAccessor self.now → R.SemanticStringAccessor.bad_content self.now.rule (normal_of S.StringView R.NormalForm.own self.now) ≡ false }
+        ensures answer { answered buffer_told result ≡ first_fail (length (normal_of R.NormalForm.own self.now)) (enough (normal_of R.NormalForm.own self.now) buffer.old ∷ []) }
+        ensures cells { buffer.new ≡ (if is_ok result then written (normal_of R.NormalForm.own self.now) buffer.old else buffer.old) }
+        ensures valid { R.SemanticStringAccessor.bad_content self.now.rule (normal_of R.NormalForm.own self.now) ≡ false }
     {
-        let mut text = [0u8; 255];
-        let len = self.storage.len();
-        let _ = as_bytes(&self.storage, &mut text);
-        self.rule.normalize(&text[0..len], buffer)
+        let text = StaticString::copy_of(&self.storage);
+        self.rule.normalize(text.as_slice(), buffer)
     }
 
     // The normal form, as a string of its own.
     fn normalized(&self) -> StaticString
-        ensures { fixed.text_of result ≡ normal_of S.StringView R.NormalForm.own self.now }
+        ensures { fixed.text_of result ≡ normal_of R.NormalForm.own self.now }
     {
         let mut normal = [0u8; 255];
         let mut copy = StaticString::new(255);
@@ -44,14 +40,14 @@ impl<S: StringView, R: NormalForm> SemanticString<S, R> {
 
     // Whether two texts have the same normal form.
     pub fn same<T: StringView>(&self, other: &SemanticString<T, R>) -> bool
-        ensures answer { Decides result (normal_of S.StringView R.NormalForm.own self.now ≡ normal_of T.StringView R.NormalForm.own other.now) }
+        ensures answer { Decides result (normal_of R.NormalForm.own self.now ≡ normal_of R.NormalForm.own other.now) }
     {
         same(&self.normalized(), &other.normalized())
     }
 
     // The order of two texts by the bytes of their normal forms. A proper start comes first.
     pub fn compare<T: StringView>(&self, other: &SemanticString<T, R>) -> Ordering
-        ensures answer { Compared (normal_of S.StringView R.NormalForm.own self.now) (normal_of T.StringView R.NormalForm.own other.now) result }
+        ensures answer { Compared (normal_of R.NormalForm.own self.now) (normal_of R.NormalForm.own other.now) result }
         ensures total { TotalOrder }
     {
         compare(&self.normalized(), &other.normalized())

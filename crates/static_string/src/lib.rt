@@ -65,8 +65,6 @@ impl StringView for StaticString {
 
     ghost fixed = { λ _. [] };
 
-    ghost closed = { λ _. Unit {0} };
-
     ghost small = { is_small };
 
     ghost short = { is_short };
@@ -85,20 +83,18 @@ impl StringView for StaticString {
 
     fn put(&mut self, place: usize, bytes: &[u8]) -> bool {
         let capacity = self.capacity();
-        let len = self.len();
-        if !insert_into(&mut self.data, capacity, len, place, bytes) {
+        if !insert_into(&mut self.data, capacity, self.len as usize, place, bytes) {
             return false;
         }
-        self.len = (len + bytes.len()) as u8;
+        self.len += bytes.len() as u8;
         true
     }
 
     fn take(&mut self, place: usize, count: usize) -> bool {
-        let len = self.len();
-        if !remove_from(&mut self.data, len, place, count) {
+        if !remove_from(&mut self.data, self.len as usize, place, count) {
             return false;
         }
-        self.len = (len - count) as u8;
+        self.len -= count as u8;
         true
     }
 }

@@ -3,13 +3,7 @@ use Rattle.string_view.specs.declared.StringView as view
 use Rattle.string_view.specs.Views.{Frame}
 
 pub frame_refl : {S : Type 0} (v : view.Ghosts S) (x : S) → Frame v x x
-frame_refl v x = record { room = refl; beyond = refl; fixed = refl; closed = λ z. z }
+frame_refl v x = record { room = refl; beyond = refl; fixed = refl }
 
 pub frame_trans : {S : Type 0} (v : view.Ghosts S) (x y z : S) → Frame v x y → Frame v y z → Frame v x z
-frame_trans v x y z f g =
-    record {
-      room = g.room ∙ f.room;
-      beyond = g.beyond ∙ f.beyond;
-      fixed = g.fixed ∙ f.fixed;
-      closed = λ c. g.closed (f.closed c);
-    }
+frame_trans v x y z f g = record { room = g.room ∙ f.room; beyond = g.beyond ∙ f.beyond; fixed = g.fixed ∙ f.fixed }

@@ -1,4 +1,4 @@
-use Rattle.std.specs.Prelude.{ℕ, ◌+◌, Bool, cond, not, List, [], ◌∷◌, length, Ok, Err, Result, ◌==◌, nat_le}
+use Rattle.std.specs.Prelude.{ℕ, ◌+◌, Bool, not, List, [], ◌∷◌, length, Ok, Err, Result, ◌==◌, nat_le, if◌then◌else◌}
 use Rattle.string_view.specs.Characters.{is_character}
 use Rattle.string_view.specs.Places.{before}
 use Rattle.string_view.specs.Refusals.{Refusal, refusal}
@@ -7,7 +7,7 @@ use Rattle.string_view.specs.Refusals.{Refusal, refusal}
 -- the answer, and where all pass it is a.
 abbrev pub first_fail : {A : Type 0} → A → List (Bool × Refusal) → Result A Refusal
 first_fail a [] = Ok a
-first_fail a (c ∷ cs) = cond c.0 (first_fail a cs) (Err c.1)
+first_fail a (c ∷ cs) = if c.0 then first_fail a cs else Err c.1
 
 -- an answer, its refusal by number
 abbrev pub answered : {A E : Type 0} → (E → Refusal) → Result A E → Result A Refusal

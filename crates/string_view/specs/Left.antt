@@ -2,6 +2,6 @@ use Rattle.std.specs.Prelude.{ℕ, List, drop}
 use Rattle.string_view.specs.declared.StringView as view
 use Rattle.string_view.specs.declared.bytes.Bytes.{Bytes}
 
--- the bytes that are still to come
+-- the bytes that b has still to give
 abbrev pub left : {S : Type 0} → view.Ghosts S → Bytes S → List ℕ
-left v b = drop b.place (v.seq b.of.now)
+left v b = drop b.place (v.seq b.storage.now)

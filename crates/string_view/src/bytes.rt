@@ -4,10 +4,10 @@ ghost use Rattle.string_view.specs.Left.{left};
 
 use crate::StringView;
 
-// The bytes of a storage from a place on.
+// Gives the bytes of a storage in order, from a place on.
 #[derive(Drop)]
 pub struct Bytes<'a, S> {
-    of: &'a S,
+    storage: &'a S,
     place: usize,
 }
 
@@ -19,24 +19,24 @@ impl<'a, S: StringView> Iterator for Bytes<'a, S> {
     ghost remaining = { item_count (left S.StringView) };
 
     fn next(&mut self) -> Option<u8> {
-        let byte = self.of.at(self.place)?;
+        let byte = self.storage.at(self.place)?;
         self.place += 1;
         Some(byte)
     }
 }
 
-// The bytes of a storage.
+// The bytes of a storage, from the first to the last.
 pub fn bytes_of<S: StringView>(s: &S) -> Bytes<'_, S>
     ensures bytes { left S.StringView result ≡ S.seq s.now }
 {
     bytes_from(s, 0)
 }
 
-// The bytes of a storage from a place on; none, where it lies behind them.
+// The bytes of a storage from a place on: none where the place is not below the length.
 pub fn bytes_from<S: StringView>(s: &S, place: usize) -> Bytes<'_, S>
     ensures bytes { left S.StringView result ≡ drop place (S.seq s.now) }
 {
-    Bytes { of: s, place }
+    Bytes { storage: s, place }
 }
 
 // Writes the bytes of a storage into the first cells of the buffer, or as many as it has cells for.

@@ -1,10 +1,6 @@
 use Rattle.std.proofs.Common.{arith, rules}
-use Rattle.cells.proofs.Moves.{removing_is}
+use Rattle.std.proofs.lemmas.List.{places, same_lists}
 use Rattle.cells.proofs.remove_from.Goals as goal
 
-pub returns : goal.returns
-returns c =
-    record {
-      answer = search rules;
-      cells = removing_is c.args.cells.now c.args.len c.args.place c.args.count (omega arith) (omega arith) _ _ c.moved.ensures (search rules);
-    }
+pub returns-clause-cells : goal.returns-clause-cells
+returns-clause-cells c = same_lists _ _ (search (rules, places)) (λ k d h. grind (arith, places))

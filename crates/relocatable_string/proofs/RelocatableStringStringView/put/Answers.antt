@@ -1,29 +1,19 @@
-use Rattle.std.proofs.Common.{◌≡◌, [], ◌∷◌, length, ap, ◌∙◌, arith, rules}
-use Rattle.cells.specs.Texts.{inserting}
-use Rattle.cells.proofs.Texts.{accepted}
-use Rattle.relocatable_string.specs.Region.{announced_of}
-use Rattle.relocatable_string.proofs.Regions as regions
+use Rattle.std.proofs.Common.{arith, rules}
+use Rattle.std.proofs.lemmas.Bool.Decides.{nat_tests}
+use Rattle.cells.proofs.Texts.{inserting_beyond, inserting_zeros}
+use Rattle.relocatable_string.specs.Relocatable.{used_of}
 use Rattle.relocatable_string.proofs.RelocatableStringStringView.put.Goals as goal
 
-pub returns : goal.returns
-returns c =
+pub invariant_of-self-2-clause-closed : goal.invariant_of-self-2-clause-closed
+invariant_of-self-2-clause-closed c =
     let s = c.args.self.now in
-    let xs = s.region.now in
-    let ys = c.insert_into.new.cells in
-    let bs = c.args.bytes.now in
-    let p = c.args.place in
-    let n = c.len-len.result in
-    let is = c.len-len.ensures.answer in
-    let same : length ys ≡ length xs = c.insert_into.auto.cells in
-    let did = accepted _ _ _ _ _ _ _ _ c.if-not-insert_into.false c.insert_into.ensures.answer c.insert_into.ensures.cells in
+    rw c.insert_into.auto.cells (inserting_zeros s.region.now c.insert_into.new.cells c.args.bytes.now s.len c.args.place (used_of s) (grind (arith, nat_tests)) (grind (arith, nat_tests)) (grind (arith, nat_tests)) c.if-not-insert_into.ensures.cells s.closed)
+
+pub returns-clause-frame : goal.returns-clause-frame
+returns-clause-frame c =
+    let s = c.args.self.now in
     record {
-      answer = search rules;
-      text = regions.put_text xs ys (announced_of s) s.len n is same bs p did.0 (omega (arith, did.1)) did.2;
-      frame = record {
-        room = regions.room_kept xs ys (announced_of s) s.len n is same;
-        beyond = regions.put_beyond xs ys (announced_of s) s.len n is same bs p did.0 (omega (arith, did.1)) did.2;
-        fixed = ap (λ q. s.region.ghost_name ∷ (q ∷ (announced_of s ∷ []))) same;
-        closed = regions.put_closed xs ys (announced_of s) s.len n is same bs p did.0 (omega (arith, did.1)) did.2;
-      };
-      cells = did.2 ∙ ap (λ k. inserting k p bs xs) is;
+      room = search rules;
+      beyond = rw c.insert_into.auto.cells (inserting_beyond s.region.now c.insert_into.new.cells c.args.bytes.now s.len c.args.place (used_of s) (grind (arith, nat_tests)) (grind (arith, nat_tests)) (grind (arith, nat_tests)) c.if-not-insert_into.ensures.cells);
+      fixed = search rules;
     }

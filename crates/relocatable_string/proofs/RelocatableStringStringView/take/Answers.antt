@@ -1,29 +1,19 @@
-use Rattle.std.proofs.Common.{◌≡◌, [], ◌∷◌, length, ap, ◌∙◌, rules}
-use Rattle.cells.specs.Texts.{removing}
-use Rattle.cells.proofs.Texts.{accepted}
-use Rattle.relocatable_string.specs.Region.{announced_of}
-use Rattle.relocatable_string.proofs.Regions as regions
+use Rattle.std.proofs.Common.{arith, rules}
+use Rattle.std.proofs.lemmas.Bool.Decides.{nat_tests}
+use Rattle.cells.proofs.Texts.{removing_beyond, removing_zeros}
+use Rattle.relocatable_string.specs.Relocatable.{used_of}
 use Rattle.relocatable_string.proofs.RelocatableStringStringView.take.Goals as goal
 
-pub returns : goal.returns
-returns c =
+pub invariant_of-self-2-clause-closed : goal.invariant_of-self-2-clause-closed
+invariant_of-self-2-clause-closed c =
     let s = c.args.self.now in
-    let xs = s.region.now in
-    let ys = c.remove_from.new.cells in
-    let p = c.args.place in
-    let k = c.args.count in
-    let n = c.len-len.result in
-    let is = c.len-len.ensures.answer in
-    let same : length ys ≡ length xs = c.remove_from.auto.cells in
-    let did = accepted _ _ _ _ _ _ _ _ c.if-not-remove_from.false c.remove_from.ensures.answer c.remove_from.ensures.cells in
+    rw c.remove_from.auto.cells (removing_zeros s.region.now c.remove_from.new.cells s.len c.args.place c.args.count (used_of s) (grind (arith, nat_tests)) (grind (arith, nat_tests)) (grind (arith, nat_tests)) c.if-not-remove_from.ensures.cells s.closed)
+
+pub returns-clause-frame : goal.returns-clause-frame
+returns-clause-frame c =
+    let s = c.args.self.now in
     record {
-      answer = search rules;
-      text = regions.take_text xs ys (announced_of s) s.len n is same p k did.0 did.2;
-      frame = record {
-        room = regions.room_kept xs ys (announced_of s) s.len n is same;
-        beyond = regions.take_beyond xs ys (announced_of s) s.len n is same p k did.0 did.2;
-        fixed = ap (λ q. s.region.ghost_name ∷ (q ∷ (announced_of s ∷ []))) same;
-        closed = regions.take_closed xs ys (announced_of s) s.len n is same p k did.0 did.2;
-      };
-      cells = did.2 ∙ ap (λ j. removing j p k xs) is;
+      room = search rules;
+      beyond = rw c.remove_from.auto.cells (removing_beyond s.region.now c.remove_from.new.cells s.len c.args.place c.args.count (used_of s) (grind (arith, nat_tests)) (grind (arith, nat_tests)) (grind (arith, nat_tests)) c.if-not-remove_from.ensures.cells);
+      fixed = search rules;
     }
