@@ -2,17 +2,20 @@
 // into its slot of the series file. Every correction is told, kept or refused, with the mark as it then stands.
 #![tactic(auto)]
 
-use anyhow::anyhow;
+use anyhow::ensure;
 use narrow::Narrow;
 use relocatable_string::RelocatableString;
 use static_string::StaticString;
-use std::cmp::Ordering;
+use std::io;
 use string::pick::ByteList;
 use string::{insert_bytes, pop, push, push_bytes, remove_range, retain};
-use string_bytes::{as_bytes, as_bytes_with_nul, from_bytes};
+use string_bytes::{as_bytes_with_nul, from_bytes};
 use string_search::{compare, strip_suffix};
 use string_view::StringView;
-use string_view::error::StringModificationError;
+
+mod telling;
+
+use telling::{Place, Refused, Told};
 
 // The longest sail mark: three letters, a blank, and four digits.
 const MARK: usize = 8;
@@ -20,143 +23,76 @@ const MARK: usize = 8;
 // A slot of the series file.
 const SLOT: usize = 10;
 
-// Prints the mark as it stands.
-fn show<S: StringView>(rt: &HostRuntime, mark: &S) -> anyhow::Result<()> {
-    let mut buffer = [0u8; 255];
-    let len = mark.len();
-    let _ = as_bytes(mark, &mut buffer);
-    let text = std::str::from_utf8(&buffer[0..len])?;
-    println!(rt; "[{text}]")?;
-    Ok(())
-}
-
-// Makes one mark's text that of another.
-fn take_over<S: StringView, T: StringView>(
-    from: &S,
-    to: &mut T,
-) -> Result<(), StringModificationError> {
-    let mut buffer = [0u8; 255];
-    let len = from.len();
-    let _ = as_bytes(from, &mut buffer);
-    from_bytes(to, &buffer[0..len])
-}
-
-// Tells of a correction that inserts bytes.
-fn tell<S: StringView>(
-    rt: &HostRuntime,
-    asked: &str,
-    answer: Result<(), StringModificationError>,
-    mark: &S,
-) -> anyhow::Result<()> {
-    match answer {
-        Ok(()) => print!(rt; "  {asked}: kept ")?,
-        Err(error) => {
-            let number = error.number();
-            print!(rt; "  {asked}: refused ({number}) ")?;
-        }
-    }
-    show(rt, mark)
-}
-
-// Tells of a correction that removes bytes.
-fn tell_removal<S: StringView>(
-    rt: &HostRuntime,
-    asked: &str,
-    done: bool,
-    mark: &S,
-) -> anyhow::Result<()> {
-    let answer = if done { "done" } else { "nothing to remove" };
-    print!(rt; "  {asked}: {answer} ")?;
-    show(rt, mark)
-}
-
-fn tent(rt: &HostRuntime, mark: &mut StaticString) -> anyhow::Result<()> {
-    rt.println("tent")?;
-    let answer = from_bytes(mark, b"GBR 11");
-    tell(rt, "type GBR 11", answer, mark)?;
-    let done = pop(mark).is_some();
-    tell_removal(rt, "take the last digit back", done, mark)?;
-    let answer = insert_bytes(mark, 3, "\u{2019}".as_bytes());
-    tell(rt, "paste a curly apostrophe behind GBR", answer, mark)?;
-    let answer = push(mark, b'2');
-    tell(rt, "type 2", answer, mark)
+fn tent(mark: &mut Told<impl Print, StaticString>) -> io::Result<()> {
+    mark.rt.println("tent")?;
+    mark.correct("type GBR 11", |mark| from_bytes(mark, b"GBR 11"))?;
+    mark.correct("take the last digit back", |mark| pop(mark).is_some())?;
+    mark.correct("paste a curly apostrophe behind GBR", |mark| {
+        insert_bytes(mark, 3, "\u{2019}".as_bytes())
+    })?;
+    mark.correct("type 2", |mark| push(mark, b'2'))
 }
 
 fn start_line(
-    rt: &HostRuntime,
-    mark: &mut RelocatableString,
+    mark: &mut Told<impl Print, RelocatableString>,
     typed: &StaticString,
-) -> anyhow::Result<()> {
-    rt.println("start line")?;
-    let answer = take_over(typed, mark);
-    tell(rt, "take over from the tent", answer, mark)?;
-    let answer = push_bytes(mark, b"345");
-    tell(rt, "add 345", answer, mark)?;
-    let answer = insert_bytes(mark, 7, b"3");
-    tell(rt, "put 3 at place 7", answer, mark)?;
-    let answer = push_bytes(mark, b"34");
-    tell(rt, "add 34", answer, mark)
+) -> io::Result<()> {
+    mark.rt.println("start line")?;
+    mark.correct("take over from the tent", |mark| {
+        from_bytes(mark, typed.as_slice())
+    })?;
+    mark.correct("add 345", |mark| push_bytes(mark, b"345"))?;
+    mark.correct("put 3 at place 7", |mark| insert_bytes(mark, 7, b"3"))?;
+    mark.correct("add 34", |mark| push_bytes(mark, b"34"))
 }
 
-fn finish<S: StringView>(rt: &HostRuntime, mark: &mut S) -> anyhow::Result<()> {
-    rt.println("finish")?;
-    let done = strip_suffix(mark, b"34");
-    tell_removal(rt, "drop the ending 34", done, mark)?;
-    let done = strip_suffix(mark, b"34");
-    tell_removal(rt, "drop the ending 34", done, mark)?;
-    let done = remove_range(mark, 5, 2);
-    tell_removal(rt, "drop two digits at place 5", done, mark)?;
-    let answer = push_bytes(mark, b"1");
-    tell(rt, "add 1", answer, mark)?;
-    let answer = push(mark, b'7');
-    tell(rt, "add 7", answer, mark)
+fn finish<S: StringView>(mark: &mut Told<impl Print, S>) -> io::Result<()> {
+    mark.rt.println("finish")?;
+    mark.correct("drop the ending 34", |mark| strip_suffix(mark, b"34"))?;
+    mark.correct("drop the ending 34", |mark| strip_suffix(mark, b"34"))?;
+    mark.correct("drop two digits at place 5", |mark| {
+        remove_range(mark, 5, 2)
+    })?;
+    mark.correct("add 1", |mark| push_bytes(mark, b"1"))?;
+    mark.correct("add 7", |mark| push(mark, b'7'))
 }
 
-fn series_file<S: StringView>(rt: &HostRuntime, mark: &mut S) -> anyhow::Result<()> {
-    rt.println("series file")?;
-    retain(mark, &ByteList { bytes: b" " });
-    tell_removal(rt, "drop the blank", true, mark)?;
+fn series_file<S: StringView>(mark: &mut Told<impl Print, S>) -> io::Result<()> {
+    mark.rt.println("series file")?;
+    mark.correct("drop the blank", |mark| {
+        retain(mark, &ByteList { bytes: b" " });
+        true
+    })?;
     let mut slot = [b'#'; SLOT];
-    match as_bytes_with_nul(mark, &mut slot) {
-        Ok(count) => println!(rt; "  {count} bytes written: {slot:?}")?,
-        Err(error) => {
-            let number = error.number();
-            println!(rt; "  nothing written, refused ({number})")?;
-        }
+    match as_bytes_with_nul(&mark.mark, &mut slot) {
+        Ok(count) => println!(mark.rt; "  {count} bytes written: {slot:?}"),
+        Err(error) => println!(mark.rt; "  nothing written, {}", Refused(error)),
     }
-    Ok(())
 }
 
 // Where the mark stands on the sheet, beside another one.
-fn sheet<S: StringView>(rt: &HostRuntime, mark: &S) -> anyhow::Result<()> {
-    let mut other = StaticString::new(MARK);
-    let answer = from_bytes(&mut other, b"GBR13");
-    tell(rt, "next on the sheet", answer, &other)?;
-    let place = match compare(mark, &other) {
-        Ordering::Less => "before",
-        Ordering::Equal => "beside",
-        Ordering::Greater => "after",
-    };
-    println!(rt; "  our mark stands {place} it")?;
-    Ok(())
+fn sheet<S: StringView>(mark: &Told<impl Print, S>) -> io::Result<()> {
+    let mut other = Told::new(mark.rt, StaticString::new(MARK));
+    other.correct("next on the sheet", |mark| from_bytes(mark, b"GBR13"))?;
+    let place = Place(compare(&mark.mark, &other.mark));
+    println!(mark.rt; "  our mark stands {place} it")
 }
 
-fn day(rt: &HostRuntime) -> anyhow::Result<()> {
-    let mut typed = StaticString::new(MARK);
-    tent(rt, &mut typed)?;
+fn day(rt: &impl Print) -> anyhow::Result<()> {
+    let mut typed = Told::new(rt, StaticString::new(MARK));
+    tent(&mut typed)?;
 
     let mut region = [b'#'; 12];
     let announced = RelocatableString::new_uninit(MARK);
-    if announced.fits(&region).is_err() {
-        return Err(anyhow!("the region is too short"));
-    }
-    let mut mark = announced.init(&mut region);
-    start_line(rt, &mut mark, &typed)?;
+    ensure!(announced.fits(&region).is_ok(), "the region is too short");
+    let mut mark = Told::new(rt, announced.init(&mut region));
+    start_line(&mut mark, &typed.mark)?;
 
-    let mut narrowed = Narrow::new(mark, 7);
-    finish(rt, &mut narrowed)?;
-    series_file(rt, &mut narrowed)?;
-    sheet(rt, &narrowed)?;
+    let Told { mark, .. } = mark;
+    let mut narrowed = Told::new(rt, Narrow::new(mark, 7));
+    finish(&mut narrowed)?;
+    series_file(&mut narrowed)?;
+    sheet(&narrowed)?;
     println!(rt; "the lent region: {region:?}")?;
     Ok(())
 }

@@ -1,5 +1,6 @@
+use crate::answer::Answer;
+use crate::script::number;
 use static_string::StaticString;
-use std::cmp::Ordering;
 use string::pick::{ByteList, ByteRange};
 use string::{
     clear, first_bad, insert, insert_bytes, is_empty, is_full, pop, push, push_bytes, remove,
@@ -9,131 +10,103 @@ use string_bytes::utils::strnlen;
 use string_bytes::{from_bytes, from_bytes_truncated, from_c_str};
 use string_search::{compare, find, rfind, same, strip_prefix, strip_suffix};
 use string_view::StringView;
-use string_view::error::StringModificationError;
 
-// What a call answers.
-#[derive(Clone, Copy, PartialEq, Eq, Debug)]
-pub enum Answer {
-    Done,
-    Yes,
-    No,
-    Byte(u8),
-    Number(usize),
-    Nothing,
-    Rank(Ordering),
-    Refused(StringModificationError),
-}
-
-// The arguments that a line gives. A call takes those that it needs.
+// A call by its word, with the arguments that a line gives. It takes those that it needs.
 #[derive(Clone, Copy)]
-pub struct Arguments<'a> {
-    pub first: usize,
-    pub second: usize,
-    pub bytes: &'a [u8],
+pub struct Call<'a> {
+    word: &'a str,
+    first: usize,
+    second: usize,
+    bytes: &'a [u8],
 }
 
-fn yes_or_no(answer: bool) -> Answer {
-    if answer { Answer::Yes } else { Answer::No }
-}
-
-fn byte_or_nothing(answer: Option<u8>) -> Answer {
-    match answer {
-        Some(byte) => Answer::Byte(byte),
-        None => Answer::Nothing,
+impl<'a> Call<'a> {
+    // The call of a line's words, if there are any, with the bytes of its text.
+    pub fn new(words: &'a str, bytes: &'a [u8]) -> Option<Call<'a>> {
+        let mut words = words.split_whitespace();
+        Some(Call {
+            word: words.next()?,
+            first: number(words.next()),
+            second: number(words.next()),
+            bytes,
+        })
     }
 }
 
-fn place_or_nothing(answer: Option<usize>) -> Answer {
-    match answer {
-        Some(place) => Answer::Number(place),
-        None => Answer::Nothing,
+impl Call<'_> {
+    // What a string answers to the call; none, where no call has the word. Each word stands once, beside what it
+    // runs: an enum of them, or a table of closures, would list them a second time or hide the calls' arguments.
+    pub fn send<S: StringView>(&self, s: &mut S) -> Option<Answer> {
+        self.ask(s).or_else(|| self.fill(s)).or_else(|| self.cut(s))
+    }
+
+    // A question of a string.
+    fn ask<S: StringView>(&self, s: &S) -> Option<Answer> {
+        Some(match self.word {
+            "capacity" => s.capacity().into(),
+            "len" => s.len().into(),
+            "at" => s.at(self.first).into(),
+            "is_empty" => is_empty(s).into(),
+            "is_full" => is_full(s).into(),
+            "find" => find(s, self.bytes).into(),
+            "rfind" => rfind(s, self.bytes).into(),
+            "same" => same(s, &self.other()).into(),
+            "compare" => compare(s, &self.other()).into(),
+            "first_bad" => first_bad(self.bytes).into(),
+            "strnlen" => strnlen(self.bytes, self.first).into(),
+            _ => return None,
+        })
+    }
+
+    // The string that one is compared with.
+    fn other(&self) -> StaticString {
+        let mut other = StaticString::new(255);
+        let _ = from_bytes(&mut other, self.bytes);
+        other
+    }
+
+    // A call that puts bytes into a string.
+    fn fill<S: StringView>(&self, s: &mut S) -> Option<Answer> {
+        Some(match self.word {
+            "put" => s.put(self.first, self.bytes).into(),
+            "insert" => insert(s, self.first, byte(self.second)?).into(),
+            "insert_bytes" => insert_bytes(s, self.first, self.bytes).into(),
+            "push" => push(s, byte(self.first)?).into(),
+            "push_bytes" => push_bytes(s, self.bytes).into(),
+            "from_bytes" => from_bytes(s, self.bytes).into(),
+            "from_bytes_truncated" => from_bytes_truncated(s, self.bytes).into(),
+            "from_c_str" => from_c_str(s, self.bytes).into(),
+            _ => return None,
+        })
+    }
+
+    // A call that removes bytes from a string.
+    fn cut<S: StringView>(&self, s: &mut S) -> Option<Answer> {
+        Some(match self.word {
+            "take" => s.take(self.first, self.second).into(),
+            "remove" => remove(s, self.first).into(),
+            "pop" => pop(s).into(),
+            "remove_range" => remove_range(s, self.first, self.second).into(),
+            "strip_prefix" => strip_prefix(s, self.bytes).into(),
+            "strip_suffix" => strip_suffix(s, self.bytes).into(),
+            "clear" => clear(s).into(),
+            "truncate" => truncate(s, self.first).into(),
+            "retain_list" => retain(s, &ByteList { bytes: self.bytes }).into(),
+            "retain_range" => retain(s, &self.range()?).into(),
+            _ => return None,
+        })
+    }
+
+    // The bytes from the first number to the second, where both are bytes.
+    fn range(&self) -> Option<ByteRange> {
+        Some(ByteRange {
+            first: byte(self.first)?,
+            last: byte(self.second)?,
+        })
     }
 }
 
-fn done_or_refused(answer: Result<(), StringModificationError>) -> Answer {
-    match answer {
-        Ok(()) => Answer::Done,
-        Err(error) => Answer::Refused(error),
-    }
-}
-
-fn low_byte(n: usize) -> u8 {
-    (n & 0xff) as u8
-}
-
-// A question of a string.
-pub fn ask<S: StringView>(s: &S, word: &str, with: &Arguments) -> Option<Answer> {
-    let mut other = StaticString::new(255);
-    let _ = from_bytes(&mut other, with.bytes);
-    Some(match word {
-        "capacity" => Answer::Number(s.capacity()),
-        "len" => Answer::Number(s.len()),
-        "at" => byte_or_nothing(s.at(with.first)),
-        "is_empty" => yes_or_no(is_empty(s)),
-        "is_full" => yes_or_no(is_full(s)),
-        "find" => place_or_nothing(find(s, with.bytes)),
-        "rfind" => place_or_nothing(rfind(s, with.bytes)),
-        "same" => yes_or_no(same(s, &other)),
-        "compare" => Answer::Rank(compare(s, &other)),
-        "first_bad" => Answer::Number(first_bad(with.bytes)),
-        "strnlen" => Answer::Number(strnlen(with.bytes, with.first)),
-        _ => return None,
-    })
-}
-
-// A call that puts bytes into a string.
-pub fn fill<S: StringView>(s: &mut S, word: &str, with: &Arguments) -> Option<Answer> {
-    Some(match word {
-        "put" => yes_or_no(s.put(with.first, with.bytes)),
-        "insert" => done_or_refused(insert(s, with.first, low_byte(with.second))),
-        "insert_bytes" => done_or_refused(insert_bytes(s, with.first, with.bytes)),
-        "push" => done_or_refused(push(s, low_byte(with.first))),
-        "push_bytes" => done_or_refused(push_bytes(s, with.bytes)),
-        "from_bytes" => done_or_refused(from_bytes(s, with.bytes)),
-        "from_bytes_truncated" => done_or_refused(from_bytes_truncated(s, with.bytes)),
-        "from_c_str" => done_or_refused(from_c_str(s, with.bytes)),
-        _ => return None,
-    })
-}
-
-// A call that removes bytes from a string.
-pub fn cut<S: StringView>(s: &mut S, word: &str, with: &Arguments) -> Option<Answer> {
-    Some(match word {
-        "take" => yes_or_no(s.take(with.first, with.second)),
-        "remove" => byte_or_nothing(remove(s, with.first)),
-        "pop" => byte_or_nothing(pop(s)),
-        "remove_range" => yes_or_no(remove_range(s, with.first, with.second)),
-        "strip_prefix" => yes_or_no(strip_prefix(s, with.bytes)),
-        "strip_suffix" => yes_or_no(strip_suffix(s, with.bytes)),
-        _ => return sweep(s, word, with),
-    })
-}
-
-// A call that removes bytes and has no answer.
-fn sweep<S: StringView>(s: &mut S, word: &str, with: &Arguments) -> Option<Answer> {
-    match word {
-        "clear" => clear(s),
-        "truncate" => truncate(s, with.first),
-        "retain_list" => retain(s, &ByteList { bytes: with.bytes }),
-        "retain_range" => retain(
-            s,
-            &ByteRange {
-                first: low_byte(with.first),
-                last: low_byte(with.second),
-            },
-        ),
-        _ => return None,
-    }
-    Some(Answer::Done)
-}
-
-// Any of them.
-pub fn send<S: StringView>(s: &mut S, word: &str, with: &Arguments) -> Option<Answer> {
-    if let Some(answer) = ask(s, word, with) {
-        return Some(answer);
-    }
-    if let Some(answer) = fill(s, word, with) {
-        return Some(answer);
-    }
-    cut(s, word, with)
+// A number as a byte, where it is one.
+fn byte(number: usize) -> Option<u8> {
+    u8::try_from(number).ok()
 }

@@ -6,10 +6,13 @@ use narrow::Narrow;
 use relocatable_string::RelocatableString;
 use static_string::StaticString;
 
+mod answer;
 mod call;
 mod script;
 
-use call::{Answer, Arguments, send};
+use answer::Answer;
+use call::Call;
+use script::{Encoded, decoded};
 use string_search::same;
 
 // The same string on each kind of storage.
@@ -20,51 +23,36 @@ struct Strings<'a> {
     narrowed: Narrow<Narrow<StaticString>>,
 }
 
-// Sends a call to each of them, and answers what they all say, if they do.
-fn send_all(strings: &mut Strings, word: &str, with: &Arguments) -> Option<Answer> {
-    let first = send(&mut strings.by_value, word, with)?;
-    let second = send(&mut strings.lent, word, with)?;
-    let third = send(&mut strings.narrowed, word, with)?;
-    if first == second && second == third {
-        Some(first)
-    } else {
-        None
+impl Strings<'_> {
+    // Sends a call to each of them, and answers what they all say, if they do.
+    fn send(&mut self, call: &Call) -> Option<Answer> {
+        let first = call.send(&mut self.by_value)?;
+        let second = call.send(&mut self.lent)?;
+        let third = call.send(&mut self.narrowed)?;
+        (first == second && second == third).then_some(first)
+    }
+
+    // Whether they hold the same text.
+    fn agree(&self) -> bool {
+        same(&self.by_value, &self.lent) && same(&self.lent, &self.narrowed)
     }
 }
 
-// A call of a line's word, with the numbers behind it and the bytes of its text.
-fn perform(strings: &mut Strings, head: &str, bytes: &[u8]) -> Option<Answer> {
-    let mut words = head.split_whitespace();
-    let word = words.next()?;
-    let first = script::number(words.next());
-    let second = script::number(words.next());
-    let with = Arguments {
-        first,
-        second,
-        bytes,
-    };
-    send_all(strings, word, &with)
-}
-
-fn step(rt: &HostRuntime, strings: &mut Strings, line: &str) -> anyhow::Result<()> {
-    let heap = rt.alloc();
-    let (head, quoted) = match line.split_once('"') {
-        Some((head, rest)) => (head, rest.trim_end_matches('"')),
-        None => (line, ""),
-    };
-    let bytes = script::decoded(heap, quoted)?;
-    let answer = match perform(strings, head, bytes.as_slice()) {
-        Some(answer) => script::told(heap, &answer)?,
-        None => format!(in heap; "?")?,
-    };
-    let text = script::encoded(heap, &strings.by_value)?;
-    let agree = same(&strings.by_value, &strings.lent) && same(&strings.lent, &strings.narrowed);
-    let mark = if agree {
+fn step(rt: &(impl Print + AllocGlobal), strings: &mut Strings, line: &str) -> anyhow::Result<()> {
+    let (words, quoted) = line.split_once('"').unwrap_or((line, ""));
+    let bytes = decoded(rt.alloc(), quoted.trim_end_matches('"'))?;
+    print!(rt; "{line} -> ")?;
+    match Call::new(words, bytes.as_slice()).and_then(|call| strings.send(&call)) {
+        Some(answer) => print!(rt; "{answer}")?,
+        None => print!(rt; "?")?,
+    }
+    let text = Encoded(&strings.by_value);
+    let mark = if strings.agree() {
         ""
     } else {
         ", and the storages differ"
     };
-    println!(rt; "{line} -> {answer}: \"{text}\"{mark}")?;
+    println!(rt; ": \"{text}\"{mark}")?;
     Ok(())
 }
 

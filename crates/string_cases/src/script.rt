@@ -1,52 +1,37 @@
-ghost use Rattle.std.specs.Prelude.{◌<◌};
-
-use crate::call::Answer;
-use std::alloc::{AllocError, Global};
-use std::cmp::Ordering;
+use anyhow::Context;
+use std::alloc::Global;
+use std::fmt;
 use string_view::StringView;
-use string_view::error::StringModificationError;
+use string_view::bytes::bytes_of;
 
 // A line has a word, up to two numbers, and up to one text in quotes, in which \xNN is the byte of that code.
 
-fn digit(b: u8) -> u8
-    ensures { result < 16 }
-{
-    match b {
-        b'0'..=b'9' => b - b'0',
-        b'a'..=b'f' => b - b'a' + 10,
-        _ => 0,
-    }
-}
-
-pub fn decoded(heap: Global, text: &str) -> Result<Vec<u8>, AllocError> {
-    let mut bytes = Vec::new(heap);
-    let mut rest = text.as_bytes();
-    while let [first, others @ ..] = rest {
-        rest = others;
-        let mut byte = *first;
-        if byte == b'\\' {
-            if let [b'x', high, low, behind @ ..] = others {
-                byte = digit(*high) * 16 + digit(*low);
-                rest = behind;
-            }
-        }
-        bytes.push(byte)?;
+// The bytes of a text as it stands in a line.
+pub fn decoded(heap: Global, text: &str) -> anyhow::Result<Vec<u8>> {
+    let mut pieces = text.split("\\x");
+    let mut bytes = pieces.next().unwrap_or("").as_bytes().to_vec(heap)?;
+    for piece in pieces {
+        let (code, plain) = piece.split_at_checked(2).context("no code behind \\x")?;
+        bytes.push(u8::from_str_radix(code, 16)?)?;
+        bytes.extend_from_slice(plain.as_bytes())?;
     }
     Ok(bytes)
 }
 
-// The text that a storage holds, as `at` gives it.
-pub fn encoded<S: StringView>(heap: Global, s: &S) -> Result<String, AllocError> {
-    let mut text = String::new(heap);
-    for i in 0..s.len() {
-        if let Some(byte) = s.at(i) {
+// The text of a storage as it would stand in a line. The library's `escape_ascii` has escapes that a line has not.
+#[derive(Drop)]
+pub struct Encoded<'a, S>(pub &'a S);
+
+impl<S: StringView> fmt::Display for Encoded<'_, S> {
+    fn fmt<W: fmt::Write>(&self, f: &mut fmt::Formatter<W>) -> fmt::Result {
+        for byte in bytes_of(self.0) {
             match byte {
-                b' '..=b'~' => text.push(byte as char)?,
-                _ => text.push_str(format!(in heap; "\\x{byte:02x}")?.as_str())?,
+                b' '..=b'~' => f.write_char(char::from(byte))?,
+                _ => write!(f, "\\x{byte:02x}")?,
             }
         }
+        Ok(())
     }
-    Ok(text)
 }
 
 // A number that stands there, the largest one, or 0 where none does.
@@ -54,27 +39,6 @@ pub fn number(word: Option<&str>) -> usize {
     match word {
         None => 0,
         Some("max") => usize::MAX,
-        Some(digits) => digits.parse::<usize>().unwrap_or(0),
-    }
-}
-
-pub fn told(heap: Global, answer: &Answer) -> Result<String, AllocError> {
-    match answer {
-        Answer::Done => format!(in heap; "done"),
-        Answer::Yes => format!(in heap; "yes"),
-        Answer::No => format!(in heap; "no"),
-        Answer::Byte(byte) => format!(in heap; "byte {byte}"),
-        Answer::Number(number) => format!(in heap; "{number}"),
-        Answer::Nothing => format!(in heap; "none"),
-        Answer::Rank(Ordering::Less) => format!(in heap; "less"),
-        Answer::Rank(Ordering::Equal) => format!(in heap; "equal"),
-        Answer::Rank(Ordering::Greater) => format!(in heap; "greater"),
-        Answer::Refused(StringModificationError::InvalidCharacter { place }) => {
-            format!(in heap; "refused 2 at {place}")
-        }
-        Answer::Refused(error) => {
-            let number = error.number();
-            format!(in heap; "refused {number}")
-        }
+        Some(digits) => digits.parse().unwrap_or(0),
     }
 }

@@ -1,11 +1,10 @@
-use crate::full_of_gbr;
 use narrow::Narrow;
 use relocatable_string::RelocatableString;
 use static_string::StaticString;
 use string::is_full;
 use string_bytes::{as_bytes, as_bytes_with_nul};
 use string_view::StringView;
-use string_view::error::{BufferTooShort, RegionTooShort, StringModificationError};
+use string_view::error::{BufferTooShort, Numbered, RegionTooShort, StringModificationError};
 
 #[test]
 fn capacities(rt: HostRuntime) {
@@ -66,6 +65,13 @@ fn too_short_a_region(rt: HostRuntime) {
     assert_eq!(rt; s.put(0, b""), true);
     assert_eq!(rt; s.take(0, 0), true);
     assert!(rt; region == [7; 4]);
+}
+
+// A full string.
+fn full_of_gbr() -> StaticString {
+    let mut s = StaticString::new(3);
+    s.put(0, b"GBR");
+    s
 }
 
 #[test]

@@ -1,11 +1,10 @@
 // Examples of rules, normal forms and checked texts. What they should give is worked out by hand.
 #![tactic(auto)]
 
-ghost use Rattle.std.specs.Prelude.{◌&&◌, ◌||◌, length, nat_lt};
+ghost use Rattle.std.specs.Prelude.{◌||◌, length, nat_lt};
 ghost use Rattle.std.proofs.lemmas.Bool.{and_left, or_left};
-ghost use Rattle.string.specs.Picks.{listed};
-ghost use Rattle.string_view.specs.Characters.{is_character};
 ghost use Rattle.rules.specs.Sets.{some_outside, strange_outside};
+ghost use Rattle.text_tests.specs.Lists.{is_among};
 
 use rules::SemanticStringAccessor;
 use rules::characters::any_outside;
@@ -23,7 +22,7 @@ struct Among<'a> {
 }
 
 impl<'a> Pick for Among<'a> {
-    ghost picked = { λ p b. is_character b && listed p.bytes.now b };
+    ghost picked = { λ p b. is_among p.bytes.now b };
 
     fn picks(&self, byte: u8) -> bool {
         byte != 0 && byte < 128 && ByteList { bytes: self.bytes }.picks(byte)
@@ -37,11 +36,11 @@ struct OneOf<'a> {
 }
 
 impl<'a> SemanticStringAccessor for OneOf<'a> {
-    ghost bad_characters = { λ r s. some_outside (λ b. is_character b && listed r.bytes.now b) s };
+    ghost bad_characters = { λ r s. some_outside (is_among r.bytes.now) s };
 
-    ghost bad_content = { λ r s. some_outside (λ b. is_character b && listed r.bytes.now b) s || nat_lt 1 (length s) };
+    ghost bad_content = { λ r s. some_outside (is_among r.bytes.now) s || nat_lt 1 (length s) };
 
-    ghost strange = { λ r s i h e. strange_outside (λ b. is_character b && listed r.bytes.now b) (λ b k. and_left _ _ k) s i h e };
+    ghost strange = { λ r s i h e. strange_outside (is_among r.bytes.now) (λ b k. and_left _ _ k) s i h e };
 
     ghost wider = { λ r s h. or_left _ _ h };
 

@@ -4,6 +4,7 @@ use rules::pair::Pair;
 use rules::{NormalForm, SemanticStringAccessor};
 use sail_mark::SailMark;
 use std::process::Abort;
+use std::test::Fail;
 use string_view::error::BufferTooShort;
 
 // The rule calls each word of a list valid.
@@ -40,21 +41,16 @@ fn outside_is_strange<R: SemanticStringAccessor>(rt: &impl Abort, rule: &R) {
 }
 
 // Each text of a list has the normal form behind its equals sign.
-fn all_normal<R: NormalForm>(rt: &impl Abort, rule: &R, pairs: &str) {
+fn all_normal<R: NormalForm>(rt: &impl Abort, rule: &R, pairs: &str) -> Result<(), Fail> {
     for pair in pairs.split(',') {
-        let Some((text, normal)) = pair.split_once('=') else {
-            assert!(rt; false);
-            return;
-        };
+        let (text, normal) = pair.split_once('=').ok_or("no equals sign")?;
         let mut buffer = [b'#'; 20];
-        let Ok(count) = rule.normalize(text.as_bytes(), &mut buffer) else {
-            assert!(rt; false);
-            return;
-        };
+        let count = rule.normalize(text.as_bytes(), &mut buffer)?;
         assert!(rt; count == normal.len() && count < 20);
         assert!(rt; &buffer[0..count] == normal.as_bytes());
         assert!(rt; buffer[count] == b'#');
     }
+    Ok(())
 }
 
 #[test]
@@ -118,18 +114,18 @@ fn pairs(rt: HostRuntime) {
 }
 
 #[test]
-fn normal_forms(rt: HostRuntime) {
-    all_normal(&rt, &FileName, "a=a,-A.b_=-A.b_,=");
+fn normal_forms(rt: HostRuntime) -> Result<(), Fail> {
+    all_normal(&rt, &FileName, "a=a,-A.b_=-A.b_,=")?;
     all_normal(
         &rt,
         &Path,
         "=,/=/,//=/,///=/,a//b/=a/b,a=a,/a=/a,//a=/a,a/=a,a///=a,/a//b///c//=/a/b/c,./a/.=./a/.",
-    );
+    )?;
     all_normal(
         &rt,
         &SailMark,
         "gbr 12=GBR12,GBR12=GBR12,gBr  1=GBR1,=, =,az AZ 09=AZAZ09,`{@[/:=`{@[/:",
-    );
+    )
 }
 
 #[test]

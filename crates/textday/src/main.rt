@@ -3,22 +3,24 @@
 // the text as it then stands.
 #![tactic(auto)]
 
-use anyhow::anyhow;
+use anyhow::ensure;
 use file_name::FileName;
 use narrow::Narrow;
 use path::Path;
 use relocatable_string::RelocatableString;
 use rules::pair::Pair;
-use rules::{NormalForm, SemanticStringAccessor};
 use sail_mark::SailMark;
 use semantic_string::SemanticString;
-use semantic_string::error::SemanticStringError;
 use static_string::StaticString;
-use std::cmp::Ordering;
+use std::io;
 use string::pick::ByteList;
 use string_bytes::as_bytes_with_nul;
 use string_view::StringView;
-use string_view::error::StringModificationError;
+use string_view::error::Numbered;
+
+mod telling;
+
+use telling::{Refused, Told};
 
 // The longest sail mark on this day: three letters, a blank, and four digits.
 const MARK: usize = 8;
@@ -26,268 +28,117 @@ const MARK: usize = 8;
 // A slot of the series file.
 const SLOT: usize = 10;
 
-// Prints the text as it stands.
-fn show<S: StringView, R: SemanticStringAccessor>(
-    rt: &HostRuntime,
-    text: &SemanticString<S, R>,
-) -> anyhow::Result<()> {
-    let mut buffer = [0u8; 255];
-    let len = text.len().min(255);
-    let _ = text.as_bytes(&mut buffer);
-    let words = std::str::from_utf8(&buffer[0..len])?;
-    println!(rt; "[{words}]")?;
-    Ok(())
-}
-
-// Prints a refusal by its number, with that of the plain string's inside.
-fn show_refusal(rt: &HostRuntime, error: SemanticStringError) -> anyhow::Result<()> {
-    let number = error.number();
-    match error {
-        SemanticStringError::ExceedsMaximumLength(inner) => match inner {
-            StringModificationError::InvalidCharacter { place } => {
-                print!(rt; "refused ({number} with 2 at {place}) ")?
-            }
-            _ => {
-                let within = inner.number();
-                print!(rt; "refused ({number} with {within}) ")?
-            }
-        },
-        _ => print!(rt; "refused ({number}) ")?,
-    }
-    Ok(())
-}
-
-// Tells of a correction that has no answer of its own.
-fn tell<S: StringView, R: SemanticStringAccessor>(
-    rt: &HostRuntime,
-    asked: &str,
-    answer: Result<(), SemanticStringError>,
-    text: &SemanticString<S, R>,
-) -> anyhow::Result<()> {
-    print!(rt; "  {asked}: ")?;
-    match answer {
-        Ok(()) => print!(rt; "kept ")?,
-        Err(error) => show_refusal(rt, error)?,
-    }
-    show(rt, text)
-}
-
-// Tells of a strip.
-fn tell_strip<S: StringView, R: SemanticStringAccessor>(
-    rt: &HostRuntime,
-    asked: &str,
-    answer: Result<bool, SemanticStringError>,
-    text: &SemanticString<S, R>,
-) -> anyhow::Result<()> {
-    print!(rt; "  {asked}: ")?;
-    match answer {
-        Ok(true) => print!(rt; "kept ")?,
-        Ok(false) => print!(rt; "nothing to remove ")?,
-        Err(error) => show_refusal(rt, error)?,
-    }
-    show(rt, text)
-}
-
-// Tells of a set-up that is refused, or hands the text on.
-fn set_up<S: StringView + Drop, R: SemanticStringAccessor + Drop>(
-    rt: &HostRuntime,
-    asked: &str,
-    made: Result<SemanticString<S, R>, SemanticStringError>,
-) -> anyhow::Result<SemanticString<S, R>> {
-    print!(rt; "  {asked}: ")?;
-    match made {
-        Ok(text) => {
-            print!(rt; "kept ")?;
-            show(rt, &text)?;
-            Ok(text)
-        }
-        Err(error) => {
-            show_refusal(rt, error)?;
-            rt.println("")?;
-            Err(anyhow!("no text stands"))
-        }
-    }
-}
-
-// A text on another storage, with the same bytes and the same rule.
-fn take_over<S: StringView, T: StringView + Drop, R: SemanticStringAccessor + Drop>(
-    from: &SemanticString<S, R>,
-    to: T,
-    rule: R,
-) -> Result<SemanticString<T, R>, SemanticStringError> {
-    let mut buffer = [0u8; 255];
-    let len = from.len().min(255);
-    let _ = from.as_bytes(&mut buffer);
-    SemanticString::new(to, rule, &buffer[0..len])
-}
-
-fn tent(rt: &HostRuntime) -> anyhow::Result<SemanticString<StaticString, SailMark>> {
+fn tent<P: Print>(rt: &P) -> anyhow::Result<Told<'_, P, StaticString, SailMark>> {
     rt.println("tent")?;
     let early = SemanticString::new(StaticString::new(MARK), SailMark, b"GBR");
     if let Err(error) = early {
-        print!(rt; "  type GBR: ")?;
-        show_refusal(rt, error)?;
-        rt.println("no mark yet")?;
+        println!(rt; "  type GBR: {} no mark yet", Refused(error))?;
     }
     let typed = SemanticString::new(StaticString::new(MARK), SailMark, b"GBR 11");
-    let mut mark = set_up(rt, "type GBR 11", typed)?;
-    let answer = match mark.pop() {
-        Ok(_) => Ok(()),
-        Err(error) => Err(error),
-    };
-    tell(rt, "take the last digit back", answer, &mark)?;
-    let answer = mark.insert_bytes(3, "\u{2019}".as_bytes());
-    tell(rt, "paste a curly apostrophe behind GBR", answer, &mark)?;
-    let answer = mark.push(b'2');
-    tell(rt, "type 2", answer, &mark)?;
+    let mut mark = Told::set_up(rt, "type GBR 11", typed)?;
+    mark.correct("take the last digit back", |mark| mark.pop().map(|_| ()))?;
+    mark.correct("paste a curly apostrophe behind GBR", |mark| {
+        mark.insert_bytes(3, "\u{2019}".as_bytes())
+    })?;
+    mark.correct("type 2", |mark| mark.push(b'2'))?;
     Ok(mark)
 }
 
 // A borrowed sail is written down, and every kind of wrong correction is refused.
-fn start_line<S: StringView>(
-    rt: &HostRuntime,
-    mark: &mut SemanticString<S, SailMark>,
-) -> anyhow::Result<()> {
-    let answer = mark.push_bytes(b"345");
-    tell(rt, "add 345", answer, mark)?;
-    let answer = mark.insert_bytes(7, b"3");
-    tell(rt, "put 3 at place 7", answer, mark)?;
-    let answer = mark.insert(0, b'Z');
-    tell(rt, "put Z in front", answer, mark)?;
-    let answer = mark.push_bytes(b"34");
-    tell(rt, "sails under the borrowed 1234", answer, mark)
+fn start_line<S: StringView>(mark: &mut Told<impl Print, S, SailMark>) -> io::Result<()> {
+    mark.correct("add 345", |mark| mark.push_bytes(b"345"))?;
+    mark.correct("put 3 at place 7", |mark| mark.insert_bytes(7, b"3"))?;
+    mark.correct("put Z in front", |mark| mark.insert(0, b'Z'))?;
+    mark.correct(
+        "sails under the borrowed 1234",
+        |mark| mark.push_bytes(b"34"),
+    )
 }
 
-fn finish<S: StringView>(
-    rt: &HostRuntime,
-    mark: &mut SemanticString<S, SailMark>,
-) -> anyhow::Result<()> {
-    let answer = mark.strip_suffix(b"34");
-    tell_strip(rt, "her own sail again, drop the ending 34", answer, mark)?;
-    let answer = mark.strip_suffix(b"34");
-    tell_strip(rt, "drop the ending 34", answer, mark)?;
-    let answer = mark.strip_prefix(b"GBR");
-    tell_strip(rt, "drop GBR", answer, mark)?;
-    let answer = mark.remove_range(4, 2);
-    tell(rt, "drop both digits", answer, mark)?;
-    let answer = mark.remove_range(5, 2);
-    tell(rt, "drop two digits at place 5", answer, mark)?;
-    let answer = mark.push(b'1');
-    tell(rt, "add 1", answer, mark)?;
-    let answer = mark.push_bytes(b"77");
-    tell(rt, "add 77", answer, mark)
+fn finish<S: StringView>(mark: &mut Told<impl Print, S, SailMark>) -> io::Result<()> {
+    mark.correct("her own sail again, drop the ending 34", |mark| {
+        mark.strip_suffix(b"34")
+    })?;
+    mark.correct("drop the ending 34", |mark| mark.strip_suffix(b"34"))?;
+    mark.correct("drop GBR", |mark| mark.strip_prefix(b"GBR"))?;
+    mark.correct("drop both digits", |mark| mark.remove_range(4, 2))?;
+    mark.correct("drop two digits at place 5", |mark| mark.remove_range(5, 2))?;
+    mark.correct("add 1", |mark| mark.push(b'1'))?;
+    mark.correct("add 77", |mark| mark.push_bytes(b"77"))
 }
 
-fn series_file<S: StringView>(
-    rt: &HostRuntime,
-    mark: &mut SemanticString<S, SailMark>,
-) -> anyhow::Result<()> {
-    rt.println("series file")?;
-    let answer = mark.retain(&ByteList { bytes: b" " });
-    tell(rt, "drop the blank", answer, mark)?;
+fn series_file<S: StringView>(mark: &mut Told<impl Print, S, SailMark>) -> io::Result<()> {
+    mark.rt.println("series file")?;
+    mark.correct("drop the blank", |mark| {
+        mark.retain(&ByteList { bytes: b" " })
+    })?;
     let mut slot = [b'#'; SLOT];
-    match as_bytes_with_nul(mark.as_string(), &mut slot) {
-        Ok(count) => println!(rt; "  {count} bytes written: {slot:?}")?,
-        Err(error) => {
-            let number = error.number();
-            println!(rt; "  nothing written, refused ({number})")?;
-        }
+    match as_bytes_with_nul(mark.text.as_string(), &mut slot) {
+        Ok(count) => println!(mark.rt; "  {count} bytes written: {slot:?}"),
+        Err(error) => println!(mark.rt; "  nothing written, refused ({})", error.number()),
     }
-    Ok(())
-}
-
-// How two texts compare, whatever their spelling.
-fn beside<S: StringView, T: StringView, R: NormalForm>(
-    rt: &HostRuntime,
-    text: &SemanticString<S, R>,
-    other: &SemanticString<T, R>,
-) -> anyhow::Result<()> {
-    let place = if text.same(other) {
-        "is the same as"
-    } else if text.compare(other) == Ordering::Less {
-        "stands before"
-    } else {
-        "stands after"
-    };
-    print!(rt; "  ours {place} ")?;
-    show(rt, other)
 }
 
 // Where the mark stands on the sheet, beside another one and beside itself in another spelling.
-fn sheet<S: StringView>(
-    rt: &HostRuntime,
-    mark: &SemanticString<S, SailMark>,
-) -> anyhow::Result<()> {
+fn sheet<S: StringView>(mark: &Told<impl Print, S, SailMark>) -> anyhow::Result<()> {
     let next = SemanticString::new(StaticString::new(MARK), SailMark, b"gbr 13");
-    let next = set_up(rt, "next on the sheet", next)?;
-    beside(rt, mark, &next)?;
+    let next = Told::set_up(mark.rt, "next on the sheet", next)?;
+    mark.beside(&next)?;
     let slot = b"gbr 121\0\0";
     let spelt = SemanticString::from_c_str(StaticString::new(MARK), SailMark, slot);
-    let spelt = set_up(rt, "from a handheld timer", spelt)?;
-    beside(rt, mark, &spelt)
+    let spelt = Told::set_up(mark.rt, "from a handheld timer", spelt)?;
+    mark.beside(&spelt)?;
+    Ok(())
 }
 
-fn results_file(rt: &HostRuntime) -> anyhow::Result<()> {
+fn results_file(rt: &impl Print) -> anyhow::Result<()> {
     rt.println("results file")?;
     let name = SemanticString::new(StaticString::new(12), FileName, b"race-1.csv");
-    let mut name = set_up(rt, "name it race-1.csv", name)?;
-    let answer = name.insert(0, b'-');
-    tell(rt, "put a hyphen in front", answer, &name)?;
-    let answer = name.insert(4, b'/');
-    tell(rt, "put a slash at place 4", answer, &name)?;
-    let answer = name.truncate(0);
-    tell(rt, "cut it to nothing", answer, &name)?;
-    let answer = name.push_bytes(b".old");
-    tell(rt, "add .old", answer, &name)?;
-    let answer = name.insert(6, b'b');
-    tell(rt, "add b behind the 1", answer, &name)?;
+    let mut name = Told::set_up(rt, "name it race-1.csv", name)?;
+    name.correct("put a hyphen in front", |name| name.insert(0, b'-'))?;
+    name.correct("put a slash at place 4", |name| name.insert(4, b'/'))?;
+    name.correct("cut it to nothing", |name| name.truncate(0))?;
+    name.correct("add .old", |name| name.push_bytes(b".old"))?;
+    name.correct("add b behind the 1", |name| name.insert(6, b'b'))?;
 
     let typed = SemanticString::new(StaticString::new(20), Path, b"series//day1/");
-    let typed = set_up(rt, "into the folder", typed)?;
+    let typed = Told::set_up(rt, "into the folder", typed)?;
     let stored = SemanticString::new(StaticString::new(20), Path, b"series/day1");
-    let stored = set_up(rt, "which the tablet knows as", stored)?;
-    beside(rt, &typed, &stored)
+    let stored = Told::set_up(rt, "which the tablet knows as", stored)?;
+    typed.beside(&stored)?;
+    Ok(())
 }
 
 // A mark that is to serve as a file name too.
-fn mark_as_name(rt: &HostRuntime) -> anyhow::Result<()> {
+fn mark_as_name(rt: &impl Print) -> anyhow::Result<()> {
     let both = Pair {
         first: SailMark,
         second: FileName,
     };
     let mark = SemanticString::new(StaticString::new(MARK), both, b"GBR121");
-    let mut mark = set_up(rt, "a mark that names a file", mark)?;
-    let answer = mark.insert(3, b' ');
-    tell(rt, "put a blank behind GBR", answer, &mark)
+    let mut mark = Told::set_up(rt, "a mark that names a file", mark)?;
+    mark.correct("put a blank behind GBR", |mark| mark.insert(3, b' '))?;
+    Ok(())
 }
 
-fn day(rt: &HostRuntime) -> anyhow::Result<()> {
+fn day(rt: &impl Print) -> anyhow::Result<()> {
     let typed = tent(rt)?;
 
     rt.println("start line")?;
     let mut region = [b'#'; 12];
     let announced = RelocatableString::new_uninit(MARK);
-    if announced.fits(&region).is_err() {
-        return Err(anyhow!("the region is too short"));
-    }
-    let lent = announced.init(&mut region);
-    let mut mark = set_up(
-        rt,
-        "take over from the tent",
-        take_over(&typed, lent, SailMark),
-    )?;
-    start_line(rt, &mut mark)?;
+    ensure!(announced.fits(&region).is_ok(), "the region is too short");
+    let lent = typed.take_over(announced.init(&mut region), SailMark);
+    let mut mark = Told::set_up(rt, "take over from the tent", lent)?;
+    start_line(&mut mark)?;
 
     rt.println("finish")?;
     let narrowed = Narrow::new(StaticString::new(255), MARK);
-    let mut mark = set_up(
-        rt,
-        "take over from the start line",
-        take_over(&mark, narrowed, SailMark),
-    )?;
-    finish(rt, &mut mark)?;
-    series_file(rt, &mut mark)?;
-    sheet(rt, &mark)?;
+    let narrowed = mark.take_over(narrowed, SailMark);
+    let mut mark = Told::set_up(rt, "take over from the start line", narrowed)?;
+    finish(&mut mark)?;
+    series_file(&mut mark)?;
+    sheet(&mark)?;
     results_file(rt)?;
     mark_as_name(rt)?;
     println!(rt; "the lent region: {region:?}")?;
