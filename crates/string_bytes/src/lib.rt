@@ -9,23 +9,12 @@ ghost use Rattle.string_bytes.specs.Terminated.{terminated};
 
 use string::{clear, first_bad};
 use string_view::StringView;
-use string_view::bytes::bytes_of;
+use string_view::bytes::copy_bytes;
 use string_view::error::{BufferTooShort, StringModificationError};
 
 pub mod utils;
 
 use utils::strnlen;
-
-// Copies the text into the first cells of a buffer that has room for it.
-fn copy_text<S: StringView>(s: &S, buffer: &mut [u8])
-    requires { length (S.seq s.now) ≤ length buffer.old }
-    ensures { buffer.new ≡ written (S.seq s.now) buffer.old }
-{
-    // By place: of cells lent by `iter_mut` under a `zip` the checker keeps nothing but their number.
-    for (place, byte) in bytes_of(s).enumerate() {
-        buffer[place] = byte;
-    }
-}
 
 // Writes the text into the first cells of the buffer, and answers how many bytes it is.
 pub fn as_bytes<S: StringView>(s: &S, buffer: &mut [u8]) -> Result<usize, BufferTooShort>
@@ -36,7 +25,7 @@ pub fn as_bytes<S: StringView>(s: &S, buffer: &mut [u8]) -> Result<usize, Buffer
     if len > buffer.len() {
         return Err(BufferTooShort);
     }
-    copy_text(s, buffer);
+    copy_bytes(s, buffer);
     Ok(len)
 }
 
@@ -49,7 +38,7 @@ pub fn as_bytes_with_nul<S: StringView>(s: &S, buffer: &mut [u8]) -> Result<usiz
     if len >= buffer.len() {
         return Err(BufferTooShort);
     }
-    copy_text(s, buffer);
+    copy_bytes(s, buffer);
     buffer[len] = 0;
     Ok(len + 1)
 }

@@ -1,9 +1,8 @@
-use Rattle.std.proofs.Common.{replicate, arith}
-use Rattle.string_view.proofs.Copies.{read_back}
+use Rattle.std.proofs.Common.{arith, rules}
+use Rattle.std.proofs.lemmas.List.{take_all, take_at}
 use Rattle.static_string.proofs.StaticString.copy_of.Goals as goal
 
 pub returns-clause-text : goal.returns-clause-text
 returns-clause-text g c =
-    let v = g.S.StringView in
-    let s = c.args.s.now in
-    read_back (v.seq s) (replicate 255 0) _ c.len-len.result c.copy_bytes.ensures.cells c.len-len.ensures.answer (omega (arith, v.short s))
+    let whole = take_all 255 (g.S.StringView.seq c.args.s.now) (omega (arith, g.S.StringView.short c.args.s.now)) in
+    search (rules, take_at)
