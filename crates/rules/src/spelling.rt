@@ -75,10 +75,9 @@ pub fn write_bytes(bytes: &[u8], buffer: &mut [u8]) -> Result<usize, BufferTooSh
     ensures answer { answered buffer_told result ≡ first_fail (length bytes.now) (enough bytes.now buffer.old ∷ []) }
     ensures cells { buffer.new ≡ (if is_ok result then written bytes.now buffer.old else buffer.old) }
 {
-    let count = bytes.len();
-    if count > buffer.len() {
-        return Err(BufferTooShort);
-    }
-    buffer[..count].copy_from_slice(bytes);
-    Ok(count)
+    let (cells, _) = buffer
+        .split_at_mut_checked(bytes.len())
+        .ok_or(BufferTooShort)?;
+    cells.copy_from_slice(bytes);
+    Ok(bytes.len())
 }
