@@ -1,10 +1,10 @@
-use Rattle.std.specs.Prelude.{◌≡◌, ◌↔◌, IsTrue, ℕ, ◌≤◌, Bool, true, false, cond, not, ◌&&◌, ◌⊎◌, List, [], ◌∷◌, ◌++◌, length, take, drop, codes, refl}
+use Rattle.std.specs.Prelude.{◌≡◌, ◌↔◌, IsTrue, ℕ, ◌≤◌, Bool, true, false, cond, not, ◌⊎◌, List, [], ◌∷◌, ◌++◌, length, take, drop, codes, refl}
 use Rattle.std.proofs.Common.{Decides, leb, sym, ap, ◌∙◌, subst, inl, inr, arith}
 use Rattle.std.proofs.lemmas.List.{take-append-drop, take_at, drop_at, length-append, length-take-le}
 use Rattle.std.proofs.lemmas.List.Elements.{All-append, All-head, All-weaker}
 use Rattle.std.proofs.lemmas.List.Recursion.{or_from_places}
 use Rattle.std.proofs.lemmas.List.Sums.{AllPass-from_list_all, list_all-from_AllPass}
-use Rattle.std.proofs.lemmas.Bool.{and_from, and_left, and_parts, both_ways, cases_Bool, cond-false, cond_both, eqb-true, leb-true, le-leb, not_from_true, or_from, or_left, or_right}
+use Rattle.std.proofs.lemmas.Bool.{and_from, both_ways, cond_both, leb-true, le-leb, not_from_true, or_from, or_left, or_right}
 use Rattle.std.proofs.lemmas.Bool.Decides.{nat_tests, Decides-and, Decides-like, Decides-not}
 use Rattle.std.specs.List.{list_all, AllPass}
 use Rattle.std.specs.Str.{bytes_eq}
@@ -43,8 +43,7 @@ gap_of t = cond (bytes_eq (take 1 t) (codes " ")) (codes " ") []
 
 gap_whole : (t : List ℕ) → t ≡ gap_of t ++ behind_blank t
 gap_whole [] = refl
-gap_whole (x ∷ xs) =
-    elim (cases_Bool (is_blank x && true)) [ inl e ↦ rw e (ap (λ y. y ∷ xs) (eqb-true x 32 (and_parts (is_blank x) true e).0)) | inr e ↦ rw e ]
+gap_whole (x ∷ xs) = grind (arith, nat_tests)
 
 gap_blank : (t : List ℕ) → (gap_of t ≡ []) ⊎ (gap_of t ≡ codes " ")
 gap_blank t = cond_both (bytes_eq (take 1 t) (codes " ")) (codes " ") [] (λ g. (g ≡ []) ⊎ (g ≡ codes " ")) (λ _. inr refl) (λ _. inl refl)
@@ -69,8 +68,7 @@ tested s t =
 gap_found : (g d : List ℕ) → (g ≡ []) ⊎ (g ≡ codes " ") → 1 ≤ length d → AllPass is_digit d → behind_blank (g ++ d) ≡ d
 gap_found g [] (inl e) h all = absurd (omega arith)
 gap_found g (x ∷ xs) (inl e) h all =
-    ap (λ z. behind_blank (z ++ (x ∷ xs))) e
-    ∙ cond-false (is_blank x && true) xs (x ∷ xs) (and_left (is_blank x) true (digit_no_blank x (All-head (λ b. is_digit b ≡ true) x xs all)))
+    ap (λ z. behind_blank (z ++ (x ∷ xs))) e ∙ rw (digit_no_blank x (All-head (λ b. is_digit b ≡ true) x xs all))
 gap_found g d (inr e) h all = ap (λ z. behind_blank (z ++ d)) e
 
 number_found : (s : List ℕ) (m : SailMarked s) → behind_blank (drop 3 s) ≡ m.number

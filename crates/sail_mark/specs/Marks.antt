@@ -1,9 +1,8 @@
 use Rattle.std.specs.Prelude.{◌≡◌, ℕ, ◌-◌, ◌≤◌, Bool, cond, not, ◌&&◌, ◌||◌, ◌⊎◌, List, [], ◌∷◌, ◌++◌, map, length, take, drop, Some, None, codes, filter, Option, ◌==◌, nat_le}
-use Rattle.std.proofs.Common.{ap}
-use Rattle.std.proofs.lemmas.Bool.{ne_eqb, both_ways}
+use Rattle.std.proofs.Common.{arith}
+use Rattle.std.proofs.lemmas.Bool.Decides.{nat_tests}
 use Rattle.std.specs.List.{list_all, AllPass}
 use Rattle.std.specs.Str.{bytes_eq}
-use Rattle.string_view.specs.Characters.{is_character}
 use Rattle.rules.specs.Letters.{is_small, is_letter, is_digit}
 use Rattle.rules.specs.Sets.{some_outside, WithinCharacters}
 use Rattle.rules.proofs.Letters.{letters_characters, digits_characters, either_characters}
@@ -17,7 +16,7 @@ abbrev pub is_mark_character : ℕ → Bool
 is_mark_character b = is_letter b || (is_digit b || is_blank b)
 
 blank_characters : WithinCharacters is_blank
-blank_characters b h = ne_eqb b 32 (λ e. both_ways _ h (ap is_character e))
+blank_characters b h = grind (arith, nat_tests)
 
 pub mark_characters : WithinCharacters is_mark_character
 mark_characters =

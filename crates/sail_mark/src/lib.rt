@@ -117,6 +117,7 @@ impl NormalForm for SailMark {
     ghost bounded = { λ _ s. mark_bounded s };
 
     // As the trait has it, and what the normal form of a mark is.
+    #[tactic(auto, using(crate::proofs::Normal::normal_spelling, crate::proofs::Normal::normal_is, crate::proofs::Normal::normal_valid))]
     fn normalize(&self, string: &[u8], buffer: &mut [u8]) -> Result<usize, BufferTooShort>
         ensures answer { answered buffer_told result ≡ first_fail (length (normal_mark string.now)) (enough (normal_mark string.now) buffer.old ∷ []) }
         ensures cells { buffer.new ≡ (if is_ok result then written (normal_mark string.now) buffer.old else buffer.old) }
