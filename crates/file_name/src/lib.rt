@@ -1,13 +1,13 @@
 #![tactic(auto)]
 
-ghost use Rattle.std.specs.Prelude.{◌≡◌, ◌||◌, Decides, refl};
-ghost use Rattle.std.proofs.lemmas.Bool.{or_left};
-ghost use Rattle.rules.specs.Sets.{some_outside, strange_outside};
+ghost use Rattle.std.specs.Prelude.{refl};
 ghost use Rattle.file_name.specs.Names.{is_portable, is_no_name, InvalidName, portable_characters};
+ghost use Rattle.file_name.specs.Laws.{invalid_decided};
 
-use rules::characters::{any_outside, is_digit, is_letter, spells, starts_with};
+use rules::NormalForm;
+use rules::character_rule::CharacterRule;
+use rules::characters::{is_digit, is_letter};
 use rules::spelling::write_bytes;
-use rules::{NormalForm, SemanticStringAccessor};
 use string::pick::Pick;
 use string_view::error::BufferTooShort;
 
@@ -19,42 +19,33 @@ impl Pick for PortableCharacters {
     ghost picked = { λ _ b. is_portable b };
 
     fn picks(&self, byte: u8) -> bool {
-        is_letter(byte) || is_digit(byte) || byte == b'.' || byte == b'_' || byte == b'-'
+        is_letter(byte) || is_digit(byte) || matches!(byte, b'.' | b'_' | b'-')
     }
-}
-
-// Whether the bytes are no file name, whatever characters they are.
-fn is_no_name(string: &[u8]) -> bool
-    ensures { result ≡ is_no_name string.now }
-{
-    spells(string, b"")
-        || spells(string, b".")
-        || spells(string, b"..")
-        || starts_with(string, b'-')
 }
 
 // The rule of a file name.
 #[derive(Clone, Copy)]
 pub struct FileName;
 
-impl SemanticStringAccessor for FileName {
-    ghost bad_characters = { λ _ s. some_outside is_portable s };
+impl CharacterRule for FileName {
+    type Characters = PortableCharacters;
 
-    ghost bad_content = { λ _ s. some_outside is_portable s || is_no_name s };
+    ghost allowed = { λ _. is_portable };
 
-    ghost strange = { λ _ s i h e. strange_outside is_portable portable_characters s i h e };
+    ghost no_text = { λ _ s. is_no_name s };
 
-    ghost wider = { λ _ s h. or_left _ _ h };
+    ghost Invalid = { λ _ s. InvalidName s };
 
-    fn does_contain_invalid_characters(&self, string: &[u8]) -> bool {
-        any_outside(&PortableCharacters, string)
+    ghost within = { λ _. portable_characters };
+
+    ghost decides = { λ _ s. invalid_decided s };
+
+    fn characters(&self) -> PortableCharacters {
+        PortableCharacters
     }
 
-    fn is_invalid_content(&self, string: &[u8]) -> bool
-        ensures answer { result ≡ some_outside is_portable string.now || is_no_name string.now }
-        ensures meaning { Decides result (InvalidName string.now) }
-    {
-        self.does_contain_invalid_characters(string) || is_no_name(string)
+    fn is_no_text(&self, string: &[u8]) -> bool {
+        matches!(string, b"" | b"." | b".." | [b'-', ..])
     }
 }
 

@@ -5,8 +5,8 @@ use Rattle.std.specs.List.{flat_map}
 use Rattle.std.specs.Str.{bytes_eq}
 use Rattle.path.specs.Laws.{step, stays, goes}
 use Rattle.path.specs.Normal.{non_empty, parts, starts_with_slash, starts_piece, spelt}
-use Rattle.path.specs.Pieces.{is_slash, first, later, pieces}
-use Rattle.path.proofs.Cuts.{pieces_split}
+use Rattle.path.specs.Pieces.{is_slash, pieces}
+use Rattle.path.specs.Invalid.{first, later, pieces_slash, pieces_other, pieces_split}
 
 -- the first piece, and those behind it that are not empty
 
@@ -17,10 +17,10 @@ abbrev lead : List ℕ → Lead
 lead s = (first (pieces s), non_empty (later (pieces s)))
 
 lead_slash : (x : ℕ) (xs : List ℕ) → is_slash x ≡ true → lead (x ∷ xs) ≡ ([], parts xs)
-lead_slash x xs e = rw e
+lead_slash x xs e = rw (pieces_slash x xs e)
 
 lead_other : (x : ℕ) (xs : List ℕ) → is_slash x ≡ false → lead (x ∷ xs) ≡ (x ∷ (lead xs).0, (lead xs).1)
-lead_other x xs e = rw e
+lead_other x xs e = rw (pieces_other x xs e)
 
 abbrev together : Lead → List (List ℕ)
 together l = cond (not (bytes_eq l.0 [])) (l.0 ∷ l.1) l.1
@@ -36,7 +36,7 @@ lead_none (x ∷ xs) e = rw (not-false (is_slash x) e)
 
 lead_some : (s : List ℕ) → starts_piece s ≡ true → parts s ≡ (lead s).0 ∷ (lead s).1
 lead_some [] e = absurd (false≢true e)
-lead_some (x ∷ xs) e = rw (not-true (is_slash x) e)
+lead_some (x ∷ xs) e = rw (pieces_other x xs (not-true (is_slash x) e))
 
 -- normalising leaves them
 
@@ -98,7 +98,7 @@ lead_is [] = refl
 lead_is (x ∷ xs) =
     elim (cases_Bool (is_slash x)) [
       | inl slash ↦ rw (starts_is x xs, slash)
-      | inr other ↦ rw (starts_is x xs, other)
+      | inr other ↦ rw (pieces_other x xs other, starts_is x xs, other)
     ]
 
 pub spelt_same : (t s : List ℕ) → starts_with_slash t ≡ starts_with_slash s → parts t ≡ parts s → spelt t ≡ spelt s

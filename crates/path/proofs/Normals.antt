@@ -1,29 +1,16 @@
-use Rattle.std.proofs.Common.{◌≡◌, ℕ, Bool, true, false, cond, ◌&&◌, ◌||◌, ◌⊎◌, List, [], ◌∷◌, ◌++◌, length, codes, sym, refl, ap, ◌∙◌, inl, inr, arith}
+use Rattle.std.proofs.Common.{◌≡◌, ℕ, Bool, true, false, cond, ◌&&◌, ◌||◌, List, [], ◌∷◌, ◌++◌, length, codes, sym, refl, ap, ◌∙◌, inl, inr, arith}
 use Rattle.std.proofs.lemmas.Slice.Eq.{bytes_eq-Decides}
 use Rattle.std.proofs.lemmas.List.{length-append, nil_from_length}
-use Rattle.std.proofs.lemmas.Bool.{cases_Bool, cond-true, cond-false, cond_both, and_from, and_left, and_right, and_parts, eqb-true, not_from_true, not_from_false, false≢true, both_ways, or_from, or_parts, or_right}
+use Rattle.std.proofs.lemmas.Bool.{cases_Bool, cond_both, and_parts, eqb-true, not_from_true, not_from_false, false≢true, both_ways, or_from, or_parts, or_right}
 use Rattle.std.specs.Str.{bytes_eq}
 use Rattle.file_name.specs.Names.{is_portable}
 use Rattle.rules.specs.Sets.{some_outside}
 use Rattle.path.specs.Laws.{Tidy, tidy_spelt, normal_tidy, step, stays, goes}
 use Rattle.path.specs.Normal.{non_empty, parts, starts_with_slash, starts_piece, spelt, only_slashes, normal_path, NormalPath}
-use Rattle.path.specs.Pieces.{is_slash, is_path_character, pieces, holds, is_no_path}
+use Rattle.path.specs.Pieces.{is_slash, is_path_character, pieces, holds, is_no_path, is_invalid_path}
 use Rattle.path.proofs.Leads.{slashed, spelt_parts, spelt_slash, spelt_same, starts_is}
 
--- the two forms, by what the code asks
-
-pub normal_slash : (s : List ℕ) → starts_with_slash s ≡ true → length (spelt s) ≡ 0 → normal_path s ≡ codes "/"
-normal_slash s b n = cond-true _ _ _ (and_from _ _ b ((bytes_eq-Decides (spelt s) []).1 (nil_from_length (spelt s) n)))
-
-filled : (t : List ℕ) → (length t ≡ 0 → ⊥) → bytes_eq t [] ≡ false
-filled [] h = absurd (h refl)
-filled (x ∷ xs) h = refl
-
-pub normal_spelt : (s : List ℕ) → (starts_with_slash s ≡ false) ⊎ (length (spelt s) ≡ 0 → ⊥) → normal_path s ≡ spelt s
-normal_spelt s (inl b) = cond-false (only_slashes s) _ _ (and_left _ _ b)
-normal_spelt s (inr h) = cond-false (only_slashes s) _ _ (and_right (starts_with_slash s) _ (filled (spelt s) h))
-
--- of anything else something is spelt
+-- of all but slashes something is spelt
 spelt_some : (x : ℕ) (xs : List ℕ) → only_slashes (x ∷ xs) ≡ false → bytes_eq (spelt (x ∷ xs)) [] ≡ false
 spelt_some x xs h =
     elim (step x xs) [
@@ -157,7 +144,7 @@ normal_holds : (s : List ℕ) (y : ℕ) (ys : List ℕ) → holds (pieces (norma
 normal_holds s y ys =
     sym (holds_parts (pieces (normal_path s)) y ys) ∙ ap (λ qs. holds qs (y ∷ ys)) (normal_meaning s).same_parts ∙ holds_parts (pieces s) y ys
 
-pub normal_valid : (s : List ℕ) → (some_outside is_path_character s || is_no_path s) ≡ false → (some_outside is_path_character (normal_path s) || is_no_path (normal_path s)) ≡ false
+pub normal_valid : (s : List ℕ) → is_invalid_path s ≡ false → is_invalid_path (normal_path s) ≡ false
 normal_valid s h =
     let all = or_parts (some_outside is_path_character s) (is_no_path s) h in
     let both = or_parts (bytes_eq s []) (holds (pieces s) (codes "..")) all.1 in

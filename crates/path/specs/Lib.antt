@@ -1,3 +1,4 @@
+pub mod Invalid
 pub mod Laws
 pub mod Normal
 pub mod Pieces

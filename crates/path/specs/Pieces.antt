@@ -1,10 +1,9 @@
-use Rattle.std.specs.Prelude.{◌≡◌, ℕ, ◌<◌, Bool, false, cond, ◌||◌, ◌⊎◌, List, [], ◌∷◌, ◌++◌, length, codes, ◌==◌, slice_index, refl}
-use Rattle.std.proofs.Common.{sym, ◌∙◌, ap}
-use Rattle.std.proofs.lemmas.Bool.{ne_eqb, both_ways}
-use Rattle.std.specs.List.{AllByRecursion}
+use Rattle.std.specs.Prelude.{◌≡◌, ℕ, ◌<◌, Bool, false, ◌||◌, ◌⊎◌, List, [], ◌++◌, length, codes, ◌==◌, slice_index}
+use Rattle.std.proofs.Common.{arith}
+use Rattle.std.proofs.lemmas.Bool.Decides.{nat_tests}
+use Rattle.std.specs.List.{All, list_any, slice_split}
 use Rattle.std.specs.Str.{bytes_eq}
-use Rattle.string_view.specs.Characters.{is_character}
-use Rattle.rules.specs.Sets.{WithinCharacters}
+use Rattle.rules.specs.Sets.{some_outside, WithinCharacters}
 use Rattle.rules.proofs.Letters.{either_characters}
 use Rattle.file_name.specs.Names.{is_portable, portable_characters}
 
@@ -21,7 +20,7 @@ pub record Piece (s p : List ℕ) : Type 0 where
   pub front : List ℕ
   pub rest : List ℕ
   pub whole : s ≡ front ++ (p ++ rest)
-  pub unbroken : AllByRecursion (λ b. is_slash b ≡ false) p
+  pub unbroken : All (λ b. is_slash b ≡ false) p
   pub before : (front ≡ []) ⊎ ((f : List ℕ) × (front ≡ f ++ codes "/"))
   pub behind : (rest ≡ []) ⊎ ((r : List ℕ) × (rest ≡ codes "/" ++ r))
 
@@ -31,32 +30,24 @@ pub data InvalidPath (s : List ℕ) : Type 0 where
   empty : s ≡ [] → InvalidPath s
   dot_dot : Piece s (codes "..") → InvalidPath s
 
--- the first of some pieces, and those behind it
-
-abbrev pub first : List (List ℕ) → List ℕ
-first [] = []
-first (p ∷ ps) = p
-
-abbrev pub later : List (List ℕ) → List (List ℕ)
-later [] = []
-later (p ∷ ps) = ps
-
 -- the pieces of s in their order, cut at its slashes
 abbrev pub pieces : List ℕ → List (List ℕ)
-pieces [] = [] ∷ []
-pieces (x ∷ xs) = cond (is_slash x) ([] ∷ pieces xs) ((x ∷ first (pieces xs)) ∷ later (pieces xs))
+pieces s = slice_split is_slash s
 
 -- p is one of the pieces
 abbrev pub holds : List (List ℕ) → List ℕ → Bool
-holds [] p = false
-holds (q ∷ qs) p = bytes_eq q p || holds qs p
+holds qs p = list_any (λ q. bytes_eq q p) qs
 
 -- InvalidPath as a test, but for the characters
 abbrev pub is_no_path : List ℕ → Bool
 is_no_path s = bytes_eq s [] || holds (pieces s) (codes "..")
 
+-- InvalidPath as a test
+abbrev pub is_invalid_path : List ℕ → Bool
+is_invalid_path s = some_outside is_path_character s || is_no_path s
+
 slash_character : WithinCharacters is_slash
-slash_character b h = ne_eqb b 47 (λ e. both_ways (is_character 47) (ap is_character (sym e) ∙ h) refl)
+slash_character b h = grind (arith, nat_tests)
 
 pub path_characters : WithinCharacters is_path_character
 path_characters = either_characters is_portable is_slash portable_characters slash_character

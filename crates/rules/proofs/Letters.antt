@@ -1,6 +1,8 @@
-use Rattle.std.proofs.Common.{◌≡◌, ℕ, zero, suc, ◌+◌, Bool, false, not, ◌&&◌, ◌||◌, leb, List, [], ◌∷◌, sym, refl, ap, ◌∙◌, arith}
+use Rattle.std.proofs.Common.{◌≡◌, ℕ, zero, suc, ◌+◌, Bool, false, not, ◌||◌, List, [], ◌∷◌, sym, refl, ap, ◌∙◌, arith}
 use Rattle.std.proofs.lemmas.Bool.{or_from, or_parts, ne_eqb, both_ways, not-false}
 use Rattle.std.proofs.lemmas.Bool.Decides.{nat_tests}
+use Rattle.std.specs.Char.{is_ascii_uppercase, is_ascii_lowercase, is_ascii_digit}
+use Rattle.std.specs.Int.{is_in_range}
 use Rattle.string.specs.Picks.{listed}
 use Rattle.string_view.specs.Characters.{is_character}
 use Rattle.rules.specs.Letters.{is_capital, is_small, is_digit, is_letter}
@@ -11,35 +13,31 @@ abbrev run : ℕ → ℕ → List ℕ
 run a zero = []
 run a (suc n) = a ∷ run (suc a) n
 
-abbrev pub within : ℕ → ℕ → ℕ → Bool
-within a z b = leb a b && leb b z
-
-listed_run : (n a z b : ℕ) → a + n ≡ suc z → listed (run a n) b ≡ within a z b
+listed_run : (n a z b : ℕ) → a + n ≡ suc z → listed (run a n) b ≡ is_in_range a z b
 listed_run zero a z b h = grind (arith, nat_tests)
 listed_run (suc n) a z b h = let t = listed_run n (suc a) z b (omega arith) in grind (arith, nat_tests)
 
-pub capital_is : (b : ℕ) → is_capital b ≡ within 65 90 b
+-- RFC 20's letters and digits are what the library calls so
+
+pub capital_is : (b : ℕ) → is_capital b ≡ is_ascii_uppercase b
 unfolding is_capital
 capital_is b = listed_run 26 65 90 b refl
 
-pub small_is : (b : ℕ) → is_small b ≡ within 97 122 b
+pub small_is : (b : ℕ) → is_small b ≡ is_ascii_lowercase b
 unfolding is_small
 small_is b = listed_run 26 97 122 b refl
 
-pub digit_is : (b : ℕ) → is_digit b ≡ within 48 57 b
+pub digit_is : (b : ℕ) → is_digit b ≡ is_ascii_digit b
 unfolding is_digit
 digit_is b = listed_run 10 48 57 b refl
 
 -- they are characters
 
 pub letters_characters : WithinCharacters is_letter
-letters_characters b h =
-    let c = capital_is b in
-    let s = small_is b in
-    grind (arith, nat_tests)
+letters_characters b h = grind (arith, nat_tests, capital_is, small_is)
 
 pub digits_characters : WithinCharacters is_digit
-digits_characters b h = let d = digit_is b in grind (arith, nat_tests)
+digits_characters b h = grind (arith, nat_tests, digit_is)
 
 pub listed_characters : (xs : List ℕ) → some_outside is_character xs ≡ false → WithinCharacters (listed xs)
 listed_characters [] k b h = refl

@@ -1,17 +1,15 @@
-use Rattle.std.specs.Prelude.{◌≡◌, ℕ, zero, suc, ◌<◌, Bool, true, false, not, ◌||◌, List, [], ◌∷◌, length, slice_index}
-use Rattle.std.proofs.Common.{arith}
-use Rattle.std.proofs.lemmas.Bool.{or_left, or_right, not_from_false}
+use Rattle.std.specs.Prelude.{◌≡◌, ℕ, ◌<◌, Bool, true, false, not, List, length, slice_index, refl}
+use Rattle.std.specs.List.{list_any}
+use Rattle.std.proofs.lemmas.Bool.{not_from_false}
+use Rattle.std.proofs.lemmas.List.Recursion.{or_at}
 use Rattle.string_view.specs.Characters.{is_character}
 
 -- some byte of s lies outside the set
 abbrev pub some_outside : (ℕ → Bool) → List ℕ → Bool
-some_outside set [] = false
-some_outside set (x ∷ xs) = not (set x) || some_outside set xs
+some_outside set s = list_any (λ b. not (set b)) s
 
 pub outside_at : (set : ℕ → Bool) (s : List ℕ) (i : ℕ) → i < length s → set (slice_index s i) ≡ false → some_outside set s ≡ true
-outside_at set [] i h e = absurd (omega arith)
-outside_at set (x ∷ xs) zero h e = or_left _ _ (not_from_false _ e)
-outside_at set (x ∷ xs) (suc i) h e = or_right _ _ (outside_at set xs i (omega arith) e)
+outside_at set s i h e = or_at (some_outside set) (λ b. not (set b)) refl (λ _ _. refl) s i 0 h (not_from_false _ e)
 
 -- every byte of the set is a character
 abbrev pub WithinCharacters : (ℕ → Bool) → Type 0

@@ -8,6 +8,7 @@ ghost use Rattle.string_bytes.specs.Buffers.{enough, written};
 
 use string_view::error::BufferTooShort;
 
+pub mod character_rule;
 pub mod characters;
 pub mod pair;
 pub mod spelling;

@@ -12,13 +12,13 @@ pub struct Pair<A, B> {
 }
 
 impl<A: SemanticStringAccessor, B: SemanticStringAccessor> SemanticStringAccessor for Pair<A, B> {
-    ghost bad_characters = { λ p s. A.SemanticStringAccessor.bad_characters p.first s || B.SemanticStringAccessor.bad_characters p.second s };
+    ghost bad_characters = { λ p s. A.bad_characters p.first s || B.bad_characters p.second s };
 
-    ghost bad_content = { λ p s. A.SemanticStringAccessor.bad_content p.first s || B.SemanticStringAccessor.bad_content p.second s };
+    ghost bad_content = { λ p s. A.bad_content p.first s || B.bad_content p.second s };
 
-    ghost strange = { λ p s i h e. or_left _ _ (A.SemanticStringAccessor.strange p.first s i h e) };
+    ghost strange = { λ p s i h e. or_left _ _ (A.strange p.first s i h e) };
 
-    ghost wider = { λ p s. either_both _ _ _ _ (A.SemanticStringAccessor.wider p.first s) (B.SemanticStringAccessor.wider p.second s) };
+    ghost wider = { λ p s. either_both _ _ _ _ (A.wider p.first s) (B.wider p.second s) };
 
     fn does_contain_invalid_characters(&self, string: &[u8]) -> bool {
         self.first.does_contain_invalid_characters(string)

@@ -1,4 +1,5 @@
 ghost use Rattle.std.specs.Prelude.{◌≡◌, ℕ, ◌≤◌, List, [], ◌∷◌, length, is_ok, if◌then◌else◌, Option};
+ghost use Rattle.std.specs.Iterator.{YieldsFirst, item_count};
 ghost use Rattle.string_view.specs.Checks.{first_fail, answered};
 ghost use Rattle.string_view.specs.Refusals.{buffer_told};
 ghost use Rattle.string_bytes.specs.Buffers.{enough, written};
@@ -15,18 +16,39 @@ pub trait Spelling {
         ensures answer { result ≡ spelt self.now rest.now };
 }
 
+// The spelling of what is left of a text, byte by byte.
+#[derive(Drop)]
+struct Spelt<'a, P> {
+    how: &'a P,
+    rest: &'a [u8],
+}
+
+impl<'a, P: Spelling> Iterator for Spelt<'a, P> {
+    type Item = u8;
+
+    ghost next_gives = { YieldsFirst (λ s. spelling (P.spelt s.how.now) s.rest.now) };
+
+    ghost remaining = { item_count (λ s. spelling (P.spelt s.how.now) s.rest.now) };
+
+    fn next(&mut self) -> Option<u8> {
+        while let [_, behind @ ..] = self.rest {
+            let byte = self.how.spell(self.rest);
+            self.rest = behind;
+            if byte.is_some() {
+                return byte;
+            }
+        }
+        None
+    }
+}
+
 // How many bytes the spelling of a text has.
+#[tactic(auto, using(crate::proofs::Spellings::spelling_no_longer))]
 pub fn spelling_len<P: Spelling>(how: &P, string: &[u8]) -> usize
-    ensures answer { result ≡ length (spelling (P.Spelling.spelt how.now) string.now) }
+    ensures answer { result ≡ length (spelling (P.spelt how.now) string.now) }
     ensures bound { result ≤ length string.now }
 {
-    let mut count = 0;
-    for place in 0..string.len() {
-        if let Some(_) = how.spell(&string[place..]) {
-            count += 1;
-        }
-    }
-    count
+    Spelt { how, rest: string }.count()
 }
 
 // Writes the spelling of a text into the first cells of the buffer, and answers how many bytes it is.
@@ -35,19 +57,15 @@ pub fn write_spelling<P: Spelling>(
     string: &[u8],
     buffer: &mut [u8],
 ) -> Result<usize, BufferTooShort>
-    ensures answer { answered buffer_told result ≡ first_fail (length (spelling (P.Spelling.spelt how.now) string.now)) (enough (spelling (P.Spelling.spelt how.now) string.now) buffer.old ∷ []) }
-    ensures cells { buffer.new ≡ (if is_ok result then written (spelling (P.Spelling.spelt how.now) string.now) buffer.old else buffer.old) }
+    ensures answer { answered buffer_told result ≡ first_fail (length (spelling (P.spelt how.now) string.now)) (enough (spelling (P.spelt how.now) string.now) buffer.old ∷ []) }
+    ensures cells { buffer.new ≡ (if is_ok result then written (spelling (P.spelt how.now) string.now) buffer.old else buffer.old) }
 {
     let len = spelling_len(how, string);
     if len > buffer.len() {
         return Err(BufferTooShort);
     }
-    let mut count = 0;
-    for place in 0..string.len() {
-        if let Some(byte) = how.spell(&string[place..]) {
-            buffer[count] = byte;
-            count += 1;
-        }
+    for (place, byte) in (Spelt { how, rest: string }).enumerate() {
+        buffer[place] = byte;
     }
     Ok(len)
 }
@@ -57,11 +75,9 @@ pub fn write_bytes(bytes: &[u8], buffer: &mut [u8]) -> Result<usize, BufferTooSh
     ensures answer { answered buffer_told result ≡ first_fail (length bytes.now) (enough bytes.now buffer.old ∷ []) }
     ensures cells { buffer.new ≡ (if is_ok result then written bytes.now buffer.old else buffer.old) }
 {
-    let count = bytes.len();
-    if count > buffer.len() {
-        return Err(BufferTooShort);
-    }
-    let first = &mut buffer[0..count];
-    first.copy_from_slice(bytes);
-    Ok(count)
+    let (cells, _) = buffer
+        .split_at_mut_checked(bytes.len())
+        .ok_or(BufferTooShort)?;
+    cells.copy_from_slice(bytes);
+    Ok(bytes.len())
 }

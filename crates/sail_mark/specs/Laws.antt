@@ -1,33 +1,24 @@
-use Rattle.std.specs.Prelude.{◌≡◌, ℕ, ◌-◌, ◌≤◌, Bool, true, false, not, List, [], ◌∷◌, length, filter, refl}
+use Rattle.std.specs.Prelude.{◌≡◌, ℕ, ◌≤◌, Bool, true, false, not, List, [], ◌∷◌, length, filter, refl}
 use Rattle.std.proofs.Common.{sym, ◌∙◌, ap, inl, inr, arith}
+use Rattle.std.specs.Char.{to_ascii_uppercase}
 use Rattle.std.proofs.lemmas.List.Filters.{length-filter_both}
 use Rattle.std.proofs.lemmas.List.{length-map}
-use Rattle.std.proofs.lemmas.Bool.{and_left, and_parts, cases_Bool, cond_both, cond-false, leb-true, lt-leb, ne_eqb}
-use Rattle.rules.specs.Letters.{is_small}
+use Rattle.std.proofs.lemmas.Bool.{cases_Bool}
+use Rattle.std.proofs.lemmas.Bool.Decides.{nat_tests}
 use Rattle.rules.proofs.Letters.{small_is}
 use Rattle.sail_mark.specs.Marks.{is_blank, capital, normal_mark}
 
 -- The laws of the normal form, for any text.
 
-small_range : (b : ℕ) → is_small b ≡ true → (97 ≤ b) × (b ≤ 122)
-small_range b e =
-    let p = and_parts _ _ (sym (small_is b) ∙ e) in
-    (leb-true 97 b p.0, leb-true b 122 p.1)
-
-capital_not_small : (b : ℕ) → is_small (capital b) ≡ false
-capital_not_small b =
-    cond_both (is_small b) (b - 32) b (λ z. is_small z ≡ false)
-    (λ e. small_is (b - 32) ∙ and_left _ _ (lt-leb 97 (b - 32) (omega (arith, small_range b e))))
-    (λ e. e)
+-- a capital is what the library calls so
+pub capital_is : (b : ℕ) → to_ascii_uppercase b ≡ capital b
+capital_is b = grind (arith, nat_tests, small_is)
 
 capital_twice : (b : ℕ) → capital (capital b) ≡ capital b
-capital_twice b = cond-false (is_small (capital b)) (capital b - 32) (capital b) (capital_not_small b)
+capital_twice b = grind (arith, nat_tests, small_is)
 
 capital_no_blank : (b : ℕ) → is_blank b ≡ false → is_blank (capital b) ≡ false
-capital_no_blank b h =
-    cond_both (is_small b) (b - 32) b (λ z. is_blank z ≡ false)
-    (λ e. ne_eqb (b - 32) 32 (λ q. omega (arith, small_range b e)))
-    (λ _. h)
+capital_no_blank b h = grind (arith, nat_tests, small_is)
 
 pub blank_goes : (x : ℕ) (xs : List ℕ) → is_blank x ≡ true → normal_mark (x ∷ xs) ≡ normal_mark xs
 blank_goes x xs e = rw e

@@ -1,9 +1,8 @@
-use Rattle.std.specs.Prelude.{◌≡◌, ℕ, ◌-◌, ◌≤◌, Bool, true, cond, not, ◌&&◌, ◌||◌, ◌⊎◌, List, [], ◌∷◌, ◌++◌, map, length, take, drop, Some, None, codes, filter, Option, ◌==◌, nat_le}
-use Rattle.std.proofs.Common.{ap}
-use Rattle.std.proofs.lemmas.Bool.{ne_eqb, both_ways}
-use Rattle.std.specs.List.{AllByRecursion}
+use Rattle.std.specs.Prelude.{◌≡◌, ℕ, ◌-◌, ◌≤◌, Bool, cond, not, ◌&&◌, ◌||◌, ◌⊎◌, List, [], ◌∷◌, ◌++◌, map, length, take, drop, Some, None, codes, filter, Option, ◌==◌, nat_le}
+use Rattle.std.proofs.Common.{arith}
+use Rattle.std.proofs.lemmas.Bool.Decides.{nat_tests}
+use Rattle.std.specs.List.{list_all, AllPass}
 use Rattle.std.specs.Str.{bytes_eq}
-use Rattle.string_view.specs.Characters.{is_character}
 use Rattle.rules.specs.Letters.{is_small, is_letter, is_digit}
 use Rattle.rules.specs.Sets.{some_outside, WithinCharacters}
 use Rattle.rules.proofs.Letters.{letters_characters, digits_characters, either_characters}
@@ -17,7 +16,7 @@ abbrev pub is_mark_character : ℕ → Bool
 is_mark_character b = is_letter b || (is_digit b || is_blank b)
 
 blank_characters : WithinCharacters is_blank
-blank_characters b h = ne_eqb b 32 (λ e. both_ways _ h (ap is_character e))
+blank_characters b h = grind (arith, nat_tests)
 
 pub mark_characters : WithinCharacters is_mark_character
 mark_characters =
@@ -29,24 +28,28 @@ pub record SailMarked (s : List ℕ) : Type 0 where
   pub gap : List ℕ
   pub number : List ℕ
   pub whole : s ≡ nation ++ (gap ++ number)
-  pub letters : AllByRecursion (λ b. is_letter b ≡ true) nation
+  pub letters : AllPass is_letter nation
   pub three : length nation ≡ 3
   pub blank : (gap ≡ []) ⊎ (gap ≡ codes " ")
-  pub numerals : AllByRecursion (λ b. is_digit b ≡ true) number
+  pub numerals : AllPass is_digit number
   pub some : 1 ≤ length number
   pub few : length number ≤ 6
 
 -- the same as a test
 
 abbrev pub is_number : List ℕ → Bool
-is_number d = (nat_le 1 (length d) && nat_le (length d) 6) && not (some_outside is_digit d)
+is_number d = (nat_le 1 (length d) && nat_le (length d) 6) && list_all is_digit d
 
 -- t without a blank in front
 abbrev pub behind_blank : List ℕ → List ℕ
 behind_blank t = cond (bytes_eq (take 1 t) (codes " ")) (drop 1 t) t
 
 abbrev pub is_mark : List ℕ → Bool
-is_mark s = (nat_le 3 (length s) && not (some_outside is_letter (take 3 s))) && is_number (behind_blank (drop 3 s))
+is_mark s = (nat_le 3 (length s) && list_all is_letter (take 3 s)) && is_number (behind_blank (drop 3 s))
+
+-- the sequences that are no valid mark, by their characters or otherwise
+abbrev pub is_invalid_mark : List ℕ → Bool
+is_invalid_mark s = some_outside is_mark_character s || not (is_mark s)
 
 -- a small letter's code is 32 above its capital's; every other byte is left as it is
 abbrev pub capital : ℕ → ℕ

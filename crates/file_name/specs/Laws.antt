@@ -1,4 +1,5 @@
-use Rattle.std.proofs.Common.{◌≡◌, ℕ, ◌||◌, ◌⊎◌, List, [], ◌++◌, take, drop, codes, Decides, sym, ap, ◌∙◌, inl, inr}
+use Rattle.std.specs.Prelude.{◌≡◌, ◌↔◌, IsTrue, ℕ, ◌||◌, ◌⊎◌, List, [], ◌++◌, take, drop, codes}
+use Rattle.std.proofs.Common.{sym, ap, ◌∙◌, inl, inr}
 use Rattle.std.proofs.lemmas.Slice.Eq.{bytes_eq-Decides}
 use Rattle.std.proofs.lemmas.List.{take-append-drop}
 use Rattle.std.proofs.lemmas.Bool.Decides.{Decides-or, Decides-like}
@@ -24,8 +25,8 @@ to_test s (dot e) = inr (inl (inr e))
 to_test s (dot_dot e) = inr (inr (inl e))
 to_test s (hyphen rest e) = inr (inr (inr (ap (take 1) e)))
 
-pub invalid_decides : (s : List ℕ) → Decides (some_outside is_portable s || is_no_name s) (InvalidName s)
-invalid_decides s =
+pub invalid_decided : (s : List ℕ) → IsTrue (some_outside is_portable s || is_no_name s) ↔ InvalidName s
+invalid_decided s =
     Decides-like _ (tested s) (to_test s)
     (Decides-or _ _ (outside_decides is_portable s)
     (Decides-or _ _ (Decides-or _ _ (bytes_eq-Decides s []) (bytes_eq-Decides s (codes ".")))

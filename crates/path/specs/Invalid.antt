@@ -1,13 +1,49 @@
-use Rattle.std.proofs.Common.{◌≡◌, ℕ, true, ◌||◌, ◌⊎◌, List, [], ◌∷◌, ◌++◌, codes, Decides, sym, refl, ap, ◌∙◌, inl, inr}
+use Rattle.std.specs.Prelude.{◌≡◌, ◌↔◌, IsTrue, ℕ, true, false, ◌⊎◌, List, [], ◌∷◌, ◌++◌, codes, refl}
+use Rattle.std.proofs.Common.{Decides, sym, ap, ◌∙◌, inl, inr}
 use Rattle.std.proofs.lemmas.Slice.Eq.{bytes_eq-Decides}
 use Rattle.std.proofs.lemmas.List.{append_assoc, append-nil}
+use Rattle.std.proofs.lemmas.List.Elements.{All-nil, All-cons}
+use Rattle.std.proofs.lemmas.List.Folds.{list_any-append}
+use Rattle.std.proofs.lemmas.List.Splits.{slice_split-cons_yes, slice_split-cons_no, slice_split_none, slice_split_at}
 use Rattle.std.proofs.lemmas.Bool.{cases_Bool, or_cases, or_left, or_right, eqb-true, false≢true}
 use Rattle.std.proofs.lemmas.Bool.Decides.{Decides-or, Decides-like}
+use Rattle.std.specs.List.{All, onto_first}
 use Rattle.std.specs.Str.{bytes_eq}
-use Rattle.rules.specs.Sets.{some_outside}
 use Rattle.rules.proofs.Sets.{Outside, outside_decides}
-use Rattle.path.specs.Pieces.{is_slash, is_path_character, first, later, pieces, holds, is_no_path, Piece, InvalidPath, strange, empty, dot_dot}
-use Rattle.path.proofs.Cuts.{Unbroken, pieces_slash, pieces_other, pieces_one, pieces_cut, pieces_split}
+use Rattle.path.specs.Pieces.{is_slash, is_path_character, is_invalid_path, pieces, holds, Piece, InvalidPath, strange, empty, dot_dot}
+
+-- no byte of it is a slash
+abbrev Unbroken : List ℕ → Type 0
+Unbroken p = All (λ b. is_slash b ≡ false) p
+
+-- the first of some pieces, and those behind it
+
+abbrev pub first : List (List ℕ) → List ℕ
+first [] = []
+first (p ∷ ps) = p
+
+abbrev pub later : List (List ℕ) → List (List ℕ)
+later [] = []
+later (p ∷ ps) = ps
+
+onto_first_is : (x : ℕ) (ps : List (List ℕ)) → onto_first x ps ≡ (x ∷ first ps) ∷ later ps
+onto_first_is x [] = refl
+onto_first_is x (p ∷ ps) = refl
+
+pub pieces_slash : (x : ℕ) (xs : List ℕ) → is_slash x ≡ true → pieces (x ∷ xs) ≡ [] ∷ pieces xs
+pieces_slash x xs e = slice_split-cons_yes is_slash x xs e
+
+pub pieces_other : (x : ℕ) (xs : List ℕ) → is_slash x ≡ false → pieces (x ∷ xs) ≡ (x ∷ first (pieces xs)) ∷ later (pieces xs)
+pieces_other x xs e = slice_split-cons_no is_slash x xs e ∙ onto_first_is x (pieces xs)
+
+-- there is always a first piece
+pub pieces_split : (s : List ℕ) → first (pieces s) ∷ later (pieces s) ≡ pieces s
+pieces_split [] = refl
+pieces_split (x ∷ xs) =
+    elim (cases_Bool (is_slash x)) [
+      | inl slash ↦ rw (pieces_slash x xs slash)
+      | inr other ↦ rw (pieces_other x xs other)
+    ]
 
 -- from the list of the pieces to a piece
 
@@ -22,16 +58,16 @@ record Begins (s p : List ℕ) : Type 0 where
   behind : Ends rest
 
 begins : (s : List ℕ) → Begins s (first (pieces s))
-begins [] = record { rest = []; whole = refl; unbroken = tt; behind = inl refl }
+begins [] = record { rest = []; whole = refl; unbroken = All-nil (λ b. is_slash b ≡ false); behind = inl refl }
 begins (x ∷ xs) =
     elim (cases_Bool (is_slash x)) [
       | inl slash ↦
           rw (pieces_slash x xs slash)
-          (record { rest = x ∷ xs; whole = refl; unbroken = tt; behind = inr (xs, ap (λ b. b ∷ xs) (eqb-true x 47 slash)) })
+          (record { rest = x ∷ xs; whole = refl; unbroken = All-nil (λ b. is_slash b ≡ false); behind = inr (xs, ap (λ b. b ∷ xs) (eqb-true x 47 slash)) })
       | inr other ↦
           let b = begins xs in
           rw (pieces_other x xs other)
-          (record { rest = b.rest; whole = ap (λ z. x ∷ z) b.whole; unbroken = (other, b.unbroken); behind = b.behind })
+          (record { rest = b.rest; whole = ap (λ z. x ∷ z) b.whole; unbroken = All-cons (λ b. is_slash b ≡ false) x (first (pieces xs)) other b.unbroken; behind = b.behind })
     ]
 
 -- p is the first piece behind a slash of s
@@ -87,25 +123,25 @@ to_piece s p h =
 
 -- and back
 
-itself : (p : List ℕ) (ps : List (List ℕ)) → holds (p ∷ ps) p ≡ true
-itself p ps = or_left _ _ ((bytes_eq-Decides p p).1 refl)
+-- a slash parts the pieces
+pieces-append : (front t : List ℕ) → pieces (front ++ (47 ∷ t)) ≡ pieces front ++ pieces t
+pieces-append [] t = refl
+pieces-append (x ∷ front) t =
+    let h = pieces-append front t in
+    elim (cases_Bool (is_slash x)) [
+      | inl slash ↦ rw (pieces_slash x (front ++ (47 ∷ t)) slash, pieces_slash x front slash) (ap (λ qs. [] ∷ qs) h)
+      | inr other ↦
+          slice_split-cons_no is_slash x (front ++ (47 ∷ t)) other
+          ∙ ap (onto_first x) (h ∙ ap (λ qs. qs ++ pieces t) (sym (pieces_split front)))
+          ∙ ap (λ qs. qs ++ pieces t) (sym (pieces_other x front other))
+    ]
 
 held_first : (p rest : List ℕ) → Unbroken p → Ends rest → holds (pieces (p ++ rest)) p ≡ true
-held_first p rest u (inl e) =
-    ap (λ z. holds (pieces z) p) (ap (λ z. p ++ z) e ∙ append-nil p) ∙ ap (λ qs. holds qs p) (pieces_one p u) ∙ itself p []
-held_first p rest u (inr r) =
-    ap (λ z. holds (pieces (p ++ z)) p) r.1 ∙ ap (λ qs. holds qs p) (pieces_cut p r.0 u) ∙ itself p (pieces r.0)
-
-held_by_later : (qs : List (List ℕ)) (p : List ℕ) → holds (later qs) p ≡ true → holds qs p ≡ true
-held_by_later [] p h = h
-held_by_later (q ∷ qs) p h = or_right _ _ h
-
-held_behind : (front t p : List ℕ) → holds (pieces t) p ≡ true → holds (later (pieces (front ++ (47 ∷ t)))) p ≡ true
-held_behind [] t p h = h
-held_behind (x ∷ front) t p h =
-    elim (cases_Bool (is_slash x)) [
-      | inl slash ↦ rw (pieces_slash x (front ++ (47 ∷ t)) slash) (held_by_later (pieces (front ++ (47 ∷ t))) p (held_behind front t p h))
-      | inr other ↦ rw (pieces_other x (front ++ (47 ∷ t)) other) (held_behind front t p h)
+held_first p rest u e =
+    let itself = (bytes_eq-Decides p p).1 refl in
+    elim e [
+      | inl none ↦ ap (λ z. holds (pieces z) p) (ap (λ z. p ++ z) none ∙ append-nil p) ∙ ap (λ qs. holds qs p) (slice_split_none is_slash p u) ∙ or_left _ _ itself
+      | inr r ↦ ap (λ z. holds (pieces (p ++ z)) p) r.1 ∙ ap (λ qs. holds qs p) (slice_split_at is_slash p 47 r.0 u refl) ∙ or_left _ _ itself
     ]
 
 from_piece : (s p : List ℕ) → Piece s p → holds (pieces s) p ≡ true
@@ -116,10 +152,12 @@ from_piece s p w =
       | inl e ↦ ap (λ z. holds (pieces z) p) (w.whole ∙ ap (λ f. f ++ t) e) ∙ h
       | inr f ↦
           ap (λ z. holds (pieces z) p) (w.whole ∙ ap (λ g. g ++ t) f.1 ∙ append_assoc f.0 (codes "/") t)
-          ∙ held_by_later (pieces (f.0 ++ (47 ∷ t))) p (held_behind f.0 t p h)
+          ∙ ap (λ qs. holds qs p) (pieces-append f.0 t)
+          ∙ list_any-append (λ q. bytes_eq q p) (pieces f.0) (pieces t)
+          ∙ or_right _ _ h
     ]
 
-pub piece_decides : (s p : List ℕ) → Decides (holds (pieces s) p) (Piece s p)
+piece_decides : (s p : List ℕ) → Decides (holds (pieces s) p) (Piece s p)
 piece_decides s p = (to_piece s p, from_piece s p)
 
 -- the tests that the code makes, by what each says
@@ -136,8 +174,8 @@ to_test s (strange i h e) = inl (i, h, e)
 to_test s (empty e) = inr (inl e)
 to_test s (dot_dot w) = inr (inr w)
 
-pub invalid_decides : (s : List ℕ) → Decides (some_outside is_path_character s || is_no_path s) (InvalidPath s)
-invalid_decides s =
+pub invalid_decided : (s : List ℕ) → IsTrue (is_invalid_path s) ↔ InvalidPath s
+invalid_decided s =
     Decides-like _ (tested s) (to_test s)
     (Decides-or _ _ (outside_decides is_path_character s)
     (Decides-or _ _ (bytes_eq-Decides s []) (piece_decides s (codes ".."))))

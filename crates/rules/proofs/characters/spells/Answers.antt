@@ -1,9 +1,0 @@
-use Rattle.std.proofs.lemmas.Slice.Eq.{slice_eq-Decides, bytes_eq-Decides}
-use Rattle.std.proofs.lemmas.Bool.Decides.{same_from_decides, Decides-eqb}
-use Rattle.rules.proofs.characters.spells.Goals as goal
-
-pub returns : goal.returns
-returns c =
-    let xs = c.args.string.now in
-    let ys = c.args.word.now in
-    record { answer = same_from_decides _ _ (slice_eq-Decides Decides-eqb xs ys _ c.eq.ensures) (bytes_eq-Decides xs ys) }
