@@ -21,12 +21,6 @@ pub trait CharacterRule {
     // what it means that a sequence is no valid text
     ghost Invalid: { Self → List ℕ → Type 0 };
 
-    // what is no character is not of the set
-    ghost within: { (x : Self) → WithinCharacters (allowed x) };
-
-    // the two tests decide what is invalid
-    ghost decides: { (x : Self) (s : List ℕ) → IsTrue (some_outside (allowed x) s || no_text x s) ↔ Invalid x s };
-
     // The set.
     fn characters(&self) -> Self::Characters
         ensures answer { Self.Characters.picked result ≡ allowed self.now };
@@ -34,6 +28,12 @@ pub trait CharacterRule {
     // Whether the bytes are no text, whatever characters they are.
     fn is_no_text(&self, string: &[u8]) -> bool
         ensures answer { result ≡ no_text self.now string.now };
+
+    // what is no character is not of the set
+    ghost within: { (x : Self) → WithinCharacters (allowed x) };
+
+    // the two tests decide what is invalid
+    ghost decides: { (x : Self) (s : List ℕ) → IsTrue (some_outside (allowed x) s || no_text x s) ↔ Invalid x s };
 }
 
 impl<R: CharacterRule> SemanticStringAccessor for R {

@@ -22,10 +22,6 @@ pub trait StringView {
     // further numbers that no call changes: the ghost names of lent references, how many cells were lent, capacities that a wrapper hides
     ghost fixed: { Self → List ℕ };
 
-    ghost small: { (x : Self) → room x ≤ 255 };
-
-    ghost short: { (x : Self) → length (seq x) ≤ 255 };
-
     fn capacity(&self) -> usize
         ensures answer { result ≡ room self.now };
 
@@ -47,4 +43,9 @@ pub trait StringView {
         ensures answer { result ≡ remove_fits (seq self.old) place count }
         ensures text { seq self.new ≡ (if result then removed place count (seq self.old) else seq self.old) }
         ensures frame { Kept room beyond fixed self.old self.new };
+
+    // a capacity, and a text, of at most 255
+    ghost small: { (x : Self) → room x ≤ 255 };
+
+    ghost short: { (x : Self) → length (seq x) ≤ 255 };
 }

@@ -4,5 +4,5 @@ use Rattle.static_string.proofs.StaticString.copy_of.Goals as goal
 
 pub returns-clause-text : goal.returns-clause-text
 returns-clause-text g c =
-    let whole = take_all 255 (g.S.StringView.seq c.args.s.now) (omega (arith, g.S.StringView.short c.args.s.now)) in
+    let whole = take_all 255 (g.S.StringView.seq c.args.s.now) (omega (arith, g.met.S.StringView.short c.args.s.now)) in
     search (rules, take_at)
