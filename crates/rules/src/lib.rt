@@ -49,5 +49,5 @@ pub trait NormalForm: SemanticStringAccessor {
     fn normalize(&self, string: &[u8], buffer: &mut [u8]) -> Result<usize, BufferTooShort>
         ensures answer { answered buffer_told result ≡ first_fail (length (normal self.now string.now)) (enough (normal self.now string.now) buffer.old ∷ []) }
         ensures cells { buffer.new ≡ (if is_ok result then written (normal self.now string.now) buffer.old else buffer.old) }
-        ensures valid { (s : List ℕ) → Self.SemanticStringAccessor.bad_content self.now s ≡ false → Self.SemanticStringAccessor.bad_content self.now (normal self.now s) ≡ false };
+        ensures valid { (s : List ℕ) → Self.bad_content self.now s ≡ false → Self.bad_content self.now (normal self.now s) ≡ false };
 }
