@@ -2,8 +2,9 @@ use Rattle.std.specs.Prelude.{◌≡◌, ℕ, ◌≤◌, true, false, List, [], 
 use Rattle.std.proofs.Common.{◌∙◌, ap, inl, inr, arith}
 use Rattle.std.proofs.lemmas.Bool.{cases_Bool, cond-false, cond_both, and_right, not-true, both_ways}
 use Rattle.std.specs.Str.{bytes_eq}
+use Rattle.rules.proofs.Spellings.{spelling_no_longer}
 use Rattle.path.specs.Pieces.{is_slash}
-use Rattle.path.specs.Normal.{starts_with_slash, starts_piece, spelt, only_slashes, normal_path}
+use Rattle.path.specs.Normal.{starts_with_slash, starts_piece, path_byte, spelt, only_slashes, normal_path}
 
 -- a piece follows every slash
 abbrev pub Tidy : List ℕ → Type 0
@@ -58,14 +59,5 @@ normal_settled s =
       | inr more ↦ rw more (normal_tidy (spelt s) (tidy_spelt s))
     ]
 
-spelt-length : (s : List ℕ) → length (spelt s) ≤ length s
-spelt-length [] = omega arith
-spelt-length (x ∷ xs) =
-    let h = spelt-length xs in
-    elim (step x xs) [
-      | stays f e ↦ omega (arith, ap length e)
-      | goes slash n e ↦ omega (arith, ap length e)
-    ]
-
 pub normal_bounded : (s : List ℕ) → length s ≤ 255 → length (normal_path s) ≤ 255
-normal_bounded s h = cond_both (only_slashes s) (codes "/") (spelt s) (λ t. length t ≤ 255) (λ _. omega arith) (λ _. omega (arith, spelt-length s))
+normal_bounded s h = cond_both (only_slashes s) (codes "/") (spelt s) (λ t. length t ≤ 255) (λ _. omega arith) (λ _. omega (arith, spelling_no_longer path_byte s))

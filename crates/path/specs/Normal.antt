@@ -1,4 +1,4 @@
-use Rattle.std.specs.Prelude.{◌≡◌, ℕ, Bool, false, cond, not, ◌&&◌, List, [], ◌∷◌, ◌++◌, take, Some, None, codes, filter, Option, ◌≢◌}
+use Rattle.std.specs.Prelude.{◌≡◌, ℕ, Bool, false, if◌then◌else◌, not, ◌&&◌, List, [], ◌∷◌, ◌++◌, take, Some, None, codes, filter, Option, ◌≢◌}
 use Rattle.std.specs.Str.{bytes_eq}
 use Rattle.rules.specs.Spellings.{spelling}
 use Rattle.path.specs.Pieces.{is_slash, pieces}
@@ -30,7 +30,7 @@ starts_piece (x ∷ xs) = not (is_slash x)
 
 abbrev pub path_byte : List ℕ → Option ℕ
 path_byte [] = None
-path_byte (x ∷ xs) = cond (is_slash x && not (starts_piece xs)) None (Some x)
+path_byte (x ∷ xs) = if is_slash x && not (starts_piece xs) then None else Some x
 
 abbrev pub spelt : List ℕ → List ℕ
 spelt s = spelling path_byte s
@@ -39,4 +39,4 @@ abbrev pub only_slashes : List ℕ → Bool
 only_slashes s = starts_with_slash s && bytes_eq (spelt s) []
 
 abbrev pub normal_path : List ℕ → List ℕ
-normal_path s = cond (only_slashes s) (codes "/") (spelt s)
+normal_path s = if only_slashes s then codes "/" else spelt s

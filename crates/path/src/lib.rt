@@ -1,9 +1,7 @@
 #![tactic(auto)]
 
-ghost use Rattle.std.specs.Prelude.{◌≡◌, ℕ, false, List, [], ◌∷◌, length, is_ok, if◌then◌else◌, codes};
-ghost use Rattle.string_view.specs.Checks.{first_fail, answered};
-ghost use Rattle.string_view.specs.Refusals.{buffer_told};
-ghost use Rattle.string_bytes.specs.Buffers.{enough, written};
+ghost use Rattle.std.specs.Prelude.{◌≡◌, ℕ, false, List, codes};
+ghost use Rattle.string_bytes.specs.Buffers.{AnswersLength, FillsFront};
 ghost use Rattle.path.specs.Invalid.{invalid_decided};
 ghost use Rattle.path.specs.Laws.{normal_settled, normal_bounded};
 ghost use Rattle.path.specs.Normal.{path_byte, normal_path, NormalPath};
@@ -33,7 +31,9 @@ impl Pick for PathCharacters {
 fn has_dot_dot(string: &[u8]) -> bool
     ensures { result ≡ holds (pieces string.now) (codes "..") }
 {
-    string.split(|byte| *byte == b'/').any(|piece| piece == b"..".as_slice())
+    string
+        .split(|byte| *byte == b'/')
+        .any(|piece| piece == b"..".as_slice())
 }
 
 // The rule of a path.
@@ -87,8 +87,8 @@ impl NormalForm for Path {
     // As the trait has it, and what a normal path is.
     #[tactic(auto, using(crate::proofs::Normals::normal_valid, crate::proofs::Normals::normal_only))]
     fn normalize(&self, string: &[u8], buffer: &mut [u8]) -> Result<usize, BufferTooShort>
-        ensures answer { answered buffer_told result ≡ first_fail (length (normal_path string.now)) (enough (normal_path string.now) buffer.old ∷ []) }
-        ensures cells { buffer.new ≡ (if is_ok result then written (normal_path string.now) buffer.old else buffer.old) }
+        ensures answer { AnswersLength (normal_path string.now) buffer.old result }
+        ensures cells { FillsFront (normal_path string.now) buffer.old buffer.new result }
         ensures valid { (s : List ℕ) → is_invalid_path s ≡ false → is_invalid_path (normal_path s) ≡ false }
         ensures meaning { NormalPath string.now (normal_path string.now) }
         ensures only { (t : List ℕ) → NormalPath string.now t → t ≡ normal_path string.now }

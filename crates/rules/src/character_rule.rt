@@ -2,10 +2,9 @@ ghost use Rattle.std.specs.Prelude.{◌≡◌, ◌↔◌, ℕ, Bool, ◌||◌, L
 ghost use Rattle.std.proofs.lemmas.Bool.{or_left};
 ghost use Rattle.rules.specs.Sets.{some_outside, strange_outside, WithinCharacters};
 
-use string::pick::Pick;
-
 use crate::SemanticStringAccessor;
 use crate::characters::any_outside;
+use string::pick::Pick;
 
 // A rule by characters. A text of it has characters of a set alone, and is not one of the sequences that are no text
 // whatever characters they are. Every such rule is a `SemanticStringAccessor`.

@@ -1,10 +1,8 @@
 #![tactic(auto)]
 
-ghost use Rattle.std.specs.Prelude.{◌≡◌, ℕ, ◌<◌, ◌≤◌, Bool, true, false, List, [], ◌∷◌, length, is_ok, if◌then◌else◌, slice_index};
+ghost use Rattle.std.specs.Prelude.{◌≡◌, ℕ, ◌<◌, ◌≤◌, Bool, true, false, List, length, slice_index};
 ghost use Rattle.string_view.specs.Characters.{is_character};
-ghost use Rattle.string_view.specs.Checks.{first_fail, answered};
-ghost use Rattle.string_view.specs.Refusals.{buffer_told};
-ghost use Rattle.string_bytes.specs.Buffers.{enough, written};
+ghost use Rattle.string_bytes.specs.Buffers.{AnswersLength, FillsFront};
 
 use string_view::error::BufferTooShort;
 
@@ -41,9 +39,9 @@ pub trait NormalForm: SemanticStringAccessor {
 
     // Writes the normal form into the first cells of the buffer, and answers how many bytes it is.
     fn normalize(&self, string: &[u8], buffer: &mut [u8]) -> Result<usize, BufferTooShort>
-        ensures answer { answered buffer_told result ≡ first_fail (length (normal self.now string.now)) (enough (normal self.now string.now) buffer.old ∷ []) }
-        ensures cells { buffer.new ≡ (if is_ok result then written (normal self.now string.now) buffer.old else buffer.old) }
-        ensures valid { (s : List ℕ) → Self.SemanticStringAccessor.bad_content self.now s ≡ false → Self.SemanticStringAccessor.bad_content self.now (normal self.now s) ≡ false };
+        ensures answer { AnswersLength (normal self.now string.now) buffer.old result }
+        ensures cells { FillsFront (normal self.now string.now) buffer.old buffer.new result }
+        ensures valid { (s : List ℕ) → Self.bad_content self.now s ≡ false → Self.bad_content self.now (normal self.now s) ≡ false };
 
     // normalising twice is normalising once
     ghost settled: { (x : Self) (s : List ℕ) → normal x (normal x s) ≡ normal x s };

@@ -1,8 +1,6 @@
-ghost use Rattle.std.specs.Prelude.{◌≡◌, ℕ, ◌≤◌, List, [], ◌∷◌, length, is_ok, if◌then◌else◌, Option};
+ghost use Rattle.std.specs.Prelude.{◌≡◌, ℕ, ◌≤◌, List, length, Option};
 ghost use Rattle.std.specs.Iterator.{YieldsFirst, item_count};
-ghost use Rattle.string_view.specs.Checks.{first_fail, answered};
-ghost use Rattle.string_view.specs.Refusals.{buffer_told};
-ghost use Rattle.string_bytes.specs.Buffers.{enough, written};
+ghost use Rattle.string_bytes.specs.Buffers.{AnswersLength, FillsFront};
 ghost use Rattle.rules.specs.Spellings.{spelling};
 
 use string_view::error::BufferTooShort;
@@ -57,8 +55,8 @@ pub fn write_spelling<P: Spelling>(
     string: &[u8],
     buffer: &mut [u8],
 ) -> Result<usize, BufferTooShort>
-    ensures answer { answered buffer_told result ≡ first_fail (length (spelling (P.spelt how.now) string.now)) (enough (spelling (P.spelt how.now) string.now) buffer.old ∷ []) }
-    ensures cells { buffer.new ≡ (if is_ok result then written (spelling (P.spelt how.now) string.now) buffer.old else buffer.old) }
+    ensures answer { AnswersLength (spelling (P.spelt how.now) string.now) buffer.old result }
+    ensures cells { FillsFront (spelling (P.spelt how.now) string.now) buffer.old buffer.new result }
 {
     let len = spelling_len(how, string);
     if len > buffer.len() {
@@ -72,8 +70,8 @@ pub fn write_spelling<P: Spelling>(
 
 // Writes the bytes into the first cells of the buffer, and answers how many they are.
 pub fn write_bytes(bytes: &[u8], buffer: &mut [u8]) -> Result<usize, BufferTooShort>
-    ensures answer { answered buffer_told result ≡ first_fail (length bytes.now) (enough bytes.now buffer.old ∷ []) }
-    ensures cells { buffer.new ≡ (if is_ok result then written bytes.now buffer.old else buffer.old) }
+    ensures answer { AnswersLength bytes.now buffer.old result }
+    ensures cells { FillsFront bytes.now buffer.old buffer.new result }
 {
     let (cells, _) = buffer
         .split_at_mut_checked(bytes.len())

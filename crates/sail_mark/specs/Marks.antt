@@ -1,4 +1,4 @@
-use Rattle.std.specs.Prelude.{◌≡◌, ℕ, ◌-◌, ◌≤◌, Bool, cond, not, ◌&&◌, ◌||◌, ◌⊎◌, List, [], ◌∷◌, ◌++◌, map, length, take, drop, Some, None, codes, filter, Option, ◌==◌, nat_le}
+use Rattle.std.specs.Prelude.{◌≡◌, ℕ, ◌-◌, ◌≤◌, Bool, if◌then◌else◌, not, ◌&&◌, ◌||◌, ◌⊎◌, List, [], ◌∷◌, ◌++◌, map, length, take, drop, Some, None, codes, filter, Option, ◌==◌, nat_le}
 use Rattle.std.proofs.Common.{arith}
 use Rattle.std.proofs.lemmas.Bool.Decides.{nat_tests}
 use Rattle.std.specs.List.{list_all, AllPass}
@@ -42,7 +42,7 @@ is_number d = (nat_le 1 (length d) && nat_le (length d) 6) && list_all is_digit 
 
 -- t without a blank in front
 abbrev pub behind_blank : List ℕ → List ℕ
-behind_blank t = cond (bytes_eq (take 1 t) (codes " ")) (drop 1 t) t
+behind_blank t = if bytes_eq (take 1 t) (codes " ") then drop 1 t else t
 
 abbrev pub is_mark : List ℕ → Bool
 is_mark s = (nat_le 3 (length s) && list_all is_letter (take 3 s)) && is_number (behind_blank (drop 3 s))
@@ -53,7 +53,7 @@ is_invalid_mark s = some_outside is_mark_character s || not (is_mark s)
 
 -- a small letter's code is 32 above its capital's; every other byte is left as it is
 abbrev pub capital : ℕ → ℕ
-capital b = cond (is_small b) (b - 32) b
+capital b = if is_small b then b - 32 else b
 
 -- the normal form of a mark: capitals, no blanks
 abbrev pub normal_mark : List ℕ → List ℕ
@@ -62,4 +62,4 @@ normal_mark s = map capital (filter (λ b. not (is_blank b)) s)
 -- the same byte by byte
 abbrev pub mark_byte : List ℕ → Option ℕ
 mark_byte [] = None
-mark_byte (x ∷ xs) = cond (is_blank x) None (Some (capital x))
+mark_byte (x ∷ xs) = if is_blank x then None else Some (capital x)

@@ -1,10 +1,8 @@
 #![tactic(auto)]
 
-ghost use Rattle.std.specs.Prelude.{◌≡◌, ℕ, false, not, List, [], ◌∷◌, ◌++◌, map, length, is_ok, if◌then◌else◌};
+ghost use Rattle.std.specs.Prelude.{◌≡◌, ℕ, false, not, List, ◌++◌, map};
 ghost use Rattle.std.specs.List.{list_all};
-ghost use Rattle.string_view.specs.Checks.{first_fail, answered};
-ghost use Rattle.string_view.specs.Refusals.{buffer_told};
-ghost use Rattle.string_bytes.specs.Buffers.{enough, written};
+ghost use Rattle.string_bytes.specs.Buffers.{AnswersLength, FillsFront};
 ghost use Rattle.rules.specs.Letters.{is_letter, is_digit};
 ghost use Rattle.sail_mark.specs.Marks.{is_mark_character, is_number, behind_blank, is_mark, is_invalid_mark, SailMarked, capital, mark_byte, normal_mark, mark_characters};
 ghost use Rattle.sail_mark.specs.Laws.{mark_settled, mark_bounded};
@@ -119,8 +117,8 @@ impl NormalForm for SailMark {
     // As the trait has it, and what the normal form of a mark is.
     #[tactic(auto, using(crate::proofs::Normal::normal_spelling, crate::proofs::Normal::normal_is, crate::proofs::Normal::normal_valid))]
     fn normalize(&self, string: &[u8], buffer: &mut [u8]) -> Result<usize, BufferTooShort>
-        ensures answer { answered buffer_told result ≡ first_fail (length (normal_mark string.now)) (enough (normal_mark string.now) buffer.old ∷ []) }
-        ensures cells { buffer.new ≡ (if is_ok result then written (normal_mark string.now) buffer.old else buffer.old) }
+        ensures answer { AnswersLength (normal_mark string.now) buffer.old result }
+        ensures cells { FillsFront (normal_mark string.now) buffer.old buffer.new result }
         ensures valid { (s : List ℕ) → is_invalid_mark s ≡ false → is_invalid_mark (normal_mark s) ≡ false }
         ensures meaning { (m : SailMarked string.now) → normal_mark string.now ≡ map capital m.nation ++ m.number }
     {

@@ -3,10 +3,9 @@
 ghost use Rattle.std.specs.Prelude.{◌≡◌, ◌-◌, ◌≤◌, false, [], ◌∷◌, ◌++◌, length, is_ok, if◌then◌else◌, ◌==◌, nat_le};
 ghost use Rattle.static_string.specs.Fixed as fixed;
 ghost use Rattle.string_view.specs.Checks.{first_fail, answered};
-ghost use Rattle.string_view.specs.Refusals.{buffer_told};
 ghost use Rattle.string_view.specs.Sequences.{inserted};
 ghost use Rattle.string_search.specs.Search.{Stands, First, Last};
-ghost use Rattle.string_bytes.specs.Buffers.{enough, written};
+ghost use Rattle.string_bytes.specs.Buffers.{AnswersLength, FillsFront};
 ghost use Rattle.string_bytes.specs.Terminated.{terminated};
 ghost use Rattle.semantic_string.specs.Checks.{content, setting_up, inserting, pushing};
 ghost use Rattle.semantic_string.specs.Edits.{outcome, removal, range_removal, retention, truncation, front_strip, end_strip};
@@ -93,8 +92,8 @@ impl<S: StringView, R: SemanticStringAccessor> SemanticString<S, R> {
 
     // Writes the text into the first cells of the buffer, and answers how many bytes it is.
     pub fn as_bytes(&self, buffer: &mut [u8]) -> Result<usize, BufferTooShort>
-        ensures answer { answered buffer_told result ≡ first_fail (length (text_of self.now)) (enough (text_of self.now) buffer.old ∷ []) }
-        ensures cells { buffer.new ≡ (if is_ok result then written (text_of self.now) buffer.old else buffer.old) }
+        ensures answer { AnswersLength (text_of self.now) buffer.old result }
+        ensures cells { FillsFront (text_of self.now) buffer.old buffer.new result }
     {
         as_bytes(&self.storage, buffer)
     }

@@ -1,9 +1,8 @@
-ghost use Rattle.std.specs.Prelude.{◌≡◌, false, [], ◌∷◌, length, is_ok, if◌then◌else◌, Decides};
+ghost use Rattle.std.specs.Prelude.{◌≡◌, false, [], ◌∷◌, length, is_ok, ◌↔◌, IsTrue};
 ghost use Rattle.static_string.specs.Fixed as fixed;
 ghost use Rattle.string_view.specs.Checks.{first_fail, answered};
-ghost use Rattle.string_view.specs.Refusals.{buffer_told};
 ghost use Rattle.string_search.specs.Order.{Compared, TotalOrder};
-ghost use Rattle.string_bytes.specs.Buffers.{enough, written};
+ghost use Rattle.string_bytes.specs.Buffers.{AnswersLength, FillsFront};
 ghost use Rattle.semantic_string.specs.Normal.{normal_of};
 
 use crate::SemanticString;
@@ -18,9 +17,9 @@ use string_view::error::BufferTooShort;
 impl<S: StringView, R: NormalForm> SemanticString<S, R> {
     // Writes the normal form into the first cells of the buffer, and answers how many bytes it is.
     pub fn normalize(&self, buffer: &mut [u8]) -> Result<usize, BufferTooShort>
-        ensures answer { answered buffer_told result ≡ first_fail (length (normal_of R.NormalForm.own self.now)) (enough (normal_of R.NormalForm.own self.now) buffer.old ∷ []) }
-        ensures cells { buffer.new ≡ (if is_ok result then written (normal_of R.NormalForm.own self.now) buffer.old else buffer.old) }
-        ensures valid { R.SemanticStringAccessor.bad_content self.now.rule (normal_of R.NormalForm.own self.now) ≡ false }
+        ensures answer { AnswersLength (normal_of R.NormalForm.own self.now) buffer.old result }
+        ensures cells { FillsFront (normal_of R.NormalForm.own self.now) buffer.old buffer.new result }
+        ensures valid { R.bad_content self.now.rule (normal_of R.NormalForm.own self.now) ≡ false }
     {
         let text = StaticString::copy_of(&self.storage);
         self.rule.normalize(text.as_slice(), buffer)
@@ -40,7 +39,7 @@ impl<S: StringView, R: NormalForm> SemanticString<S, R> {
 
     // Whether two texts have the same normal form.
     pub fn same<T: StringView>(&self, other: &SemanticString<T, R>) -> bool
-        ensures answer { Decides result (normal_of R.NormalForm.own self.now ≡ normal_of R.NormalForm.own other.now) }
+        ensures answer { IsTrue result ↔ (normal_of R.NormalForm.own self.now ≡ normal_of R.NormalForm.own other.now) }
     {
         same(&self.normalized(), &other.normalized())
     }

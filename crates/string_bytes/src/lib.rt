@@ -2,9 +2,9 @@
 
 ghost use Rattle.std.specs.Prelude.{◌≡◌, ◌≤◌, [], ◌∷◌, ◌++◌, length, take, is_ok, if◌then◌else◌};
 ghost use Rattle.string_view.specs.Checks.{first_fail, answered, characters, loading};
-ghost use Rattle.string_view.specs.Refusals.{told, buffer_told};
+ghost use Rattle.string_view.specs.Refusals.{told};
 ghost use Rattle.string_view.specs.Views.{Frame};
-ghost use Rattle.string_bytes.specs.Buffers.{enough, written};
+ghost use Rattle.string_bytes.specs.Buffers.{AnswersLength, FillsFront};
 ghost use Rattle.string_bytes.specs.Terminated.{terminated};
 
 use string::{clear, first_bad};
@@ -18,8 +18,8 @@ use utils::strnlen;
 
 // Writes the text into the first cells of the buffer, and answers how many bytes it is.
 pub fn as_bytes<S: StringView>(s: &S, buffer: &mut [u8]) -> Result<usize, BufferTooShort>
-    ensures answer { answered buffer_told result ≡ first_fail (length (S.seq s.now)) (enough (S.seq s.now) buffer.old ∷ []) }
-    ensures cells { buffer.new ≡ (if is_ok result then written (S.seq s.now) buffer.old else buffer.old) }
+    ensures answer { AnswersLength (S.seq s.now) buffer.old result }
+    ensures cells { FillsFront (S.seq s.now) buffer.old buffer.new result }
 {
     let len = s.len();
     if len > buffer.len() {
@@ -31,8 +31,8 @@ pub fn as_bytes<S: StringView>(s: &S, buffer: &mut [u8]) -> Result<usize, Buffer
 
 // Writes the text and a zero behind it into the first cells of the buffer, and answers how many bytes these are.
 pub fn as_bytes_with_nul<S: StringView>(s: &S, buffer: &mut [u8]) -> Result<usize, BufferTooShort>
-    ensures answer { answered buffer_told result ≡ first_fail (length (S.seq s.now ++ (0 ∷ []))) (enough (S.seq s.now ++ (0 ∷ [])) buffer.old ∷ []) }
-    ensures cells { buffer.new ≡ (if is_ok result then written (S.seq s.now ++ (0 ∷ [])) buffer.old else buffer.old) }
+    ensures answer { AnswersLength (S.seq s.now ++ (0 ∷ [])) buffer.old result }
+    ensures cells { FillsFront (S.seq s.now ++ (0 ∷ [])) buffer.old buffer.new result }
 {
     let len = s.len();
     if len >= buffer.len() {
