@@ -18,17 +18,16 @@ pub struct Told<'a, P, T> {
     pub text: T,
 }
 
-impl<'a, P: Print, S: StringView + Drop, R: SemanticStringAccessor + Drop> Told<
-    'a,
-    P,
-    SemanticString<S, R>,
-> {
+impl<'a, P: Print, T: Legible> Told<'a, P, T> {
     // Tells of a set-up that is refused, or takes the text in hand.
     pub fn set_up(
         rt: &'a P,
         asked: &str,
-        made: Result<SemanticString<S, R>, SemanticStringError>,
-    ) -> anyhow::Result<Self> {
+        made: Result<T, SemanticStringError>,
+    ) -> anyhow::Result<Told<'a, P, T>>
+    where
+        T: Drop,
+    {
         match made {
             Ok(text) => {
                 println!(rt; "  {asked}: kept {}", Shown(&text))?;
@@ -40,9 +39,7 @@ impl<'a, P: Print, S: StringView + Drop, R: SemanticStringAccessor + Drop> Told<
             }
         }
     }
-}
 
-impl<P: Print, T: Legible> Told<'_, P, T> {
     // Makes a correction, and tells what came of it, with the text as it then stands.
     pub fn correct<A: Into<Outcome>, F: FnOnce(&mut T) -> A>(
         &mut self,
@@ -66,8 +63,7 @@ impl<P: Print, S: StringView, R: SemanticStringAccessor> Told<'_, P, SemanticStr
     where
         R: Drop,
     {
-        let copy = StaticString::copy_of(self.text.as_string());
-        SemanticString::new(to, rule, copy.as_slice())
+        SemanticString::new(to, rule, self.text.copy().as_slice())
     }
 
     // Tells how the text compares with another one, whatever their spelling.
