@@ -28,7 +28,7 @@ const MARK: usize = 8;
 // A slot of the series file.
 const SLOT: usize = 10;
 
-fn tent<P: Print>(rt: &P) -> anyhow::Result<Told<'_, P, StaticString, SailMark>> {
+fn tent<P: Print>(rt: &P) -> anyhow::Result<Told<'_, P, SemanticString<StaticString, SailMark>>> {
     rt.println("tent")?;
     let early = SemanticString::new(StaticString::new(MARK), SailMark, b"GBR");
     if let Err(error) = early {
@@ -45,7 +45,9 @@ fn tent<P: Print>(rt: &P) -> anyhow::Result<Told<'_, P, StaticString, SailMark>>
 }
 
 // A borrowed sail is written down, and every kind of wrong correction is refused.
-fn start_line<S: StringView>(mark: &mut Told<impl Print, S, SailMark>) -> io::Result<()> {
+fn start_line<S: StringView>(
+    mark: &mut Told<impl Print, SemanticString<S, SailMark>>,
+) -> io::Result<()> {
     mark.correct("add 345", |mark| mark.push_bytes(b"345"))?;
     mark.correct("put 3 at place 7", |mark| mark.insert_bytes(7, b"3"))?;
     mark.correct("put Z in front", |mark| mark.insert(0, b'Z'))?;
@@ -55,7 +57,9 @@ fn start_line<S: StringView>(mark: &mut Told<impl Print, S, SailMark>) -> io::Re
     )
 }
 
-fn finish<S: StringView>(mark: &mut Told<impl Print, S, SailMark>) -> io::Result<()> {
+fn finish<S: StringView>(
+    mark: &mut Told<impl Print, SemanticString<S, SailMark>>,
+) -> io::Result<()> {
     mark.correct("her own sail again, drop the ending 34", |mark| {
         mark.strip_suffix(b"34")
     })?;
@@ -67,7 +71,9 @@ fn finish<S: StringView>(mark: &mut Told<impl Print, S, SailMark>) -> io::Result
     mark.correct("add 77", |mark| mark.push_bytes(b"77"))
 }
 
-fn series_file<S: StringView>(mark: &mut Told<impl Print, S, SailMark>) -> io::Result<()> {
+fn series_file<S: StringView>(
+    mark: &mut Told<impl Print, SemanticString<S, SailMark>>,
+) -> io::Result<()> {
     mark.rt.println("series file")?;
     mark.correct("drop the blank", |mark| {
         mark.retain(&ByteList { bytes: b" " })
@@ -80,7 +86,9 @@ fn series_file<S: StringView>(mark: &mut Told<impl Print, S, SailMark>) -> io::R
 }
 
 // Where the mark stands on the sheet, beside another one and beside itself in another spelling.
-fn sheet<S: StringView>(mark: &Told<impl Print, S, SailMark>) -> anyhow::Result<()> {
+fn sheet<S: StringView>(
+    mark: &Told<impl Print, SemanticString<S, SailMark>>,
+) -> anyhow::Result<()> {
     let next = SemanticString::new(StaticString::new(MARK), SailMark, b"gbr 13");
     let next = Told::set_up(mark.rt, "next on the sheet", next)?;
     mark.beside(&next)?;

@@ -10,20 +10,24 @@ use std::{fmt, io};
 use string_view::StringView;
 use string_view::error::{Numbered, StringModificationError};
 
-// A text in hand, and where its corrections are told.
+// A text in hand, and where its corrections are told. The text's type is a parameter, since the bound of a closure
+// cannot name a type that holds facts.
 #[derive(Drop)]
-pub struct Told<'a, P, S: StringView, R: SemanticStringAccessor> {
+pub struct Told<'a, P, T> {
     pub rt: &'a P,
-    pub text: SemanticString<S, R>,
+    pub text: T,
 }
 
-impl<'a, P: Print, S: StringView + Drop, R: SemanticStringAccessor + Drop> Told<'a, P, S, R> {
+impl<'a, P: Print, T: Legible> Told<'a, P, T> {
     // Tells of a set-up that is refused, or takes the text in hand.
     pub fn set_up(
         rt: &'a P,
         asked: &str,
-        made: Result<SemanticString<S, R>, SemanticStringError>,
-    ) -> anyhow::Result<Told<'a, P, S, R>> {
+        made: Result<T, SemanticStringError>,
+    ) -> anyhow::Result<Told<'a, P, T>>
+    where
+        T: Drop,
+    {
         match made {
             Ok(text) => {
                 println!(rt; "  {asked}: kept {}", Shown(&text))?;
@@ -35,11 +39,9 @@ impl<'a, P: Print, S: StringView + Drop, R: SemanticStringAccessor + Drop> Told<
             }
         }
     }
-}
 
-impl<P: Print, S: StringView, R: SemanticStringAccessor> Told<'_, P, S, R> {
     // Makes a correction, and tells what came of it, with the text as it then stands.
-    pub fn correct<A: Into<Outcome>, F: FnOnce(&mut SemanticString<S, R>) -> A>(
+    pub fn correct<A: Into<Outcome>, F: FnOnce(&mut T) -> A>(
         &mut self,
         asked: &str,
         correction: F,
@@ -49,7 +51,9 @@ impl<P: Print, S: StringView, R: SemanticStringAccessor> Told<'_, P, S, R> {
         let outcome: Outcome = correction(&mut self.text).into();
         println!(self.rt; "  {asked}: {outcome} {}", Shown(&self.text))
     }
+}
 
+impl<P: Print, S: StringView, R: SemanticStringAccessor> Told<'_, P, SemanticString<S, R>> {
     // The text on another storage, with the same bytes and the same rule.
     pub fn take_over<T: StringView + Drop>(
         &self,
@@ -59,12 +63,11 @@ impl<P: Print, S: StringView, R: SemanticStringAccessor> Told<'_, P, S, R> {
     where
         R: Drop,
     {
-        let copy = StaticString::copy_of(self.text.as_string());
-        SemanticString::new(to, rule, copy.as_slice())
+        SemanticString::new(to, rule, self.text.copy().as_slice())
     }
 
     // Tells how the text compares with another one, whatever their spelling.
-    pub fn beside<T: StringView>(&self, other: &Told<P, T, R>) -> io::Result<()>
+    pub fn beside<T: StringView>(&self, other: &Told<P, SemanticString<T, R>>) -> io::Result<()>
     where
         R: NormalForm,
     {
@@ -79,13 +82,24 @@ impl<P: Print, S: StringView, R: SemanticStringAccessor> Told<'_, P, S, R> {
     }
 }
 
+// What can be read as a text.
+pub trait Legible {
+    fn copy(&self) -> StaticString;
+}
+
+impl<S: StringView, R: SemanticStringAccessor> Legible for SemanticString<S, R> {
+    fn copy(&self) -> StaticString {
+        StaticString::copy_of(self.as_string())
+    }
+}
+
 // A text as it stands.
 #[derive(Drop)]
-struct Shown<'a, S: StringView, R: SemanticStringAccessor>(&'a SemanticString<S, R>);
+struct Shown<'a, T>(&'a T);
 
-impl<S: StringView, R: SemanticStringAccessor> fmt::Display for Shown<'_, S, R> {
+impl<T: Legible> fmt::Display for Shown<'_, T> {
     fn fmt<W: fmt::Write>(&self, f: &mut fmt::Formatter<W>) -> fmt::Result {
-        let copy = StaticString::copy_of(self.0.as_string());
+        let copy = self.0.copy();
         let text = std::str::from_utf8(copy.as_slice()).map_err(|_| fmt::Error)?;
         write!(f, "[{text}]")
     }
