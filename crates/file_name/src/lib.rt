@@ -5,9 +5,9 @@ ghost use Rattle.std.proofs.lemmas.Bool.{or_left};
 ghost use Rattle.rules.specs.Sets.{some_outside, strange_outside};
 ghost use Rattle.file_name.specs.Names.{is_portable, is_no_name, is_invalid_name, InvalidName, portable_characters};
 
-use rules::{NormalForm, SemanticStringAccessor};
 use rules::characters::{any_outside, is_digit, is_letter};
 use rules::spelling::write_bytes;
+use rules::{NormalForm, SemanticStringAccessor};
 use string::pick::Pick;
 use string_view::error::BufferTooShort;
 

@@ -9,9 +9,9 @@ ghost use Rattle.path.specs.Normal.{path_byte, normal_path, NormalPath};
 ghost use Rattle.path.specs.Pieces.{is_path_character, pieces, holds, is_no_path, is_invalid_path, InvalidPath, path_characters};
 
 use file_name::PortableCharacters;
-use rules::{NormalForm, SemanticStringAccessor};
 use rules::characters::{any_outside, starts_with};
 use rules::spelling::{Spelling, spelling_len, write_bytes, write_spelling};
+use rules::{NormalForm, SemanticStringAccessor};
 use string::pick::Pick;
 use string_view::error::BufferTooShort;
 

@@ -62,6 +62,7 @@ pub fn write_spelling<P: Spelling>(
     if len > buffer.len() {
         return Err(BufferTooShort);
     }
+    // by place: after a `zip` with `iter_mut` a proof does not know the cells
     for (place, byte) in (Spelt { how, rest: string }).enumerate() {
         buffer[place] = byte;
     }

@@ -9,9 +9,9 @@ ghost use Rattle.rules.specs.Sets.{some_outside, strange_outside};
 ghost use Rattle.sail_mark.specs.Marks.{is_mark_character, is_number, behind_blank, is_mark, is_invalid_mark, SailMarked, capital, mark_byte, normal_mark, mark_characters};
 ghost use Rattle.sail_mark.specs.Laws.{mark_settled, mark_bounded};
 
-use rules::{NormalForm, SemanticStringAccessor};
 use rules::characters::{any_outside, is_digit, is_letter};
 use rules::spelling::{Spelling, write_spelling};
+use rules::{NormalForm, SemanticStringAccessor};
 use string::pick::Pick;
 use string_view::error::BufferTooShort;
 
