@@ -52,7 +52,7 @@ impl Call<'_> {
             "rfind" => rfind(s, self.bytes).into(),
             "same" => same(s, &self.other()).into(),
             "compare" => compare(s, &self.other()).into(),
-            "first_bad" => first_bad(self.bytes).into(),
+            "first_bad" => first_bad(self.bytes).unwrap_or(self.bytes.len()).into(),
             "strnlen" => strnlen(self.bytes, self.first).into(),
             _ => return None,
         })
