@@ -2,7 +2,7 @@ use Rattle.std.specs.Prelude.{◌≡◌, ℕ, ◌<◌, Bool, false, ◌||◌, Li
 use Rattle.std.specs.Str.{bytes_eq}
 use Rattle.string.specs.Picks.{listed}
 use Rattle.rules.specs.Letters.{is_letter, is_digit}
-use Rattle.rules.specs.Sets.{WithinCharacters}
+use Rattle.rules.specs.Sets.{some_outside, WithinCharacters}
 use Rattle.rules.proofs.Letters.{letters_characters, digits_characters, listed_characters, either_characters}
 
 -- POSIX.1's portable filename character set: the letters, the digits, full stop, low line and hyphen
@@ -18,9 +18,13 @@ pub data InvalidName (s : List ℕ) : Type 0 where
   dot_dot : s ≡ codes ".." → InvalidName s
   hyphen : (rest : List ℕ) → s ≡ codes "-" ++ rest → InvalidName s
 
--- the same as a test, but for the characters
+-- InvalidName as a test, but for the characters
 abbrev pub is_no_name : List ℕ → Bool
 is_no_name s = (bytes_eq s [] || bytes_eq s (codes ".")) || (bytes_eq s (codes "..") || bytes_eq (take 1 s) (codes "-"))
+
+-- InvalidName as a test
+abbrev pub is_invalid_name : List ℕ → Bool
+is_invalid_name s = some_outside is_portable s || is_no_name s
 
 pub portable_characters : WithinCharacters is_portable
 portable_characters =

@@ -1,12 +1,12 @@
 #![tactic(auto)]
 
-ghost use Rattle.std.specs.Prelude.{refl};
-ghost use Rattle.file_name.specs.Names.{is_portable, is_no_name, InvalidName, portable_characters};
-ghost use Rattle.file_name.specs.Laws.{invalid_decided};
+ghost use Rattle.std.specs.Prelude.{◌≡◌, ◌↔◌, IsTrue, refl};
+ghost use Rattle.std.proofs.lemmas.Bool.{or_left};
+ghost use Rattle.rules.specs.Sets.{some_outside, strange_outside};
+ghost use Rattle.file_name.specs.Names.{is_portable, is_no_name, is_invalid_name, InvalidName, portable_characters};
 
-use rules::NormalForm;
-use rules::character_rule::CharacterRule;
-use rules::characters::{is_digit, is_letter};
+use rules::{NormalForm, SemanticStringAccessor};
+use rules::characters::{any_outside, is_digit, is_letter};
 use rules::spelling::write_bytes;
 use string::pick::Pick;
 use string_view::error::BufferTooShort;
@@ -23,29 +23,36 @@ impl Pick for PortableCharacters {
     }
 }
 
+// Whether the bytes are no file name, whatever characters they are.
+fn is_no_name(string: &[u8]) -> bool
+    ensures { result ≡ is_no_name string.now }
+{
+    matches!(string, b"" | b"." | b".." | [b'-', ..])
+}
+
 // The rule of a file name.
 #[derive(Clone, Copy)]
 pub struct FileName;
 
-impl CharacterRule for FileName {
-    type Characters = PortableCharacters;
+impl SemanticStringAccessor for FileName {
+    ghost bad_characters = { λ _. some_outside is_portable };
 
-    ghost allowed = { λ _. is_portable };
+    ghost bad_content = { λ _. is_invalid_name };
 
-    ghost no_text = { λ _ s. is_no_name s };
+    ghost strange = { λ _. strange_outside is_portable portable_characters };
 
-    ghost Invalid = { λ _ s. InvalidName s };
+    ghost wider = { λ _ s h. or_left _ _ h };
 
-    ghost within = { λ _. portable_characters };
-
-    ghost decides = { λ _ s. invalid_decided s };
-
-    fn characters(&self) -> PortableCharacters {
-        PortableCharacters
+    fn does_contain_invalid_characters(&self, string: &[u8]) -> bool {
+        any_outside(&PortableCharacters, string)
     }
 
-    fn is_no_text(&self, string: &[u8]) -> bool {
-        matches!(string, b"" | b"." | b".." | [b'-', ..])
+    // As the trait has it, and what it means.
+    fn is_invalid_content(&self, string: &[u8]) -> bool
+        ensures answer { result ≡ is_invalid_name string.now }
+        ensures meaning { IsTrue result ↔ InvalidName string.now }
+    {
+        self.does_contain_invalid_characters(string) || is_no_name(string)
     }
 }
 

@@ -6,7 +6,7 @@ use Rattle.std.specs.Str.{bytes_eq}
 use Rattle.path.specs.Laws.{step, stays, goes}
 use Rattle.path.specs.Normal.{non_empty, parts, starts_with_slash, starts_piece, spelt}
 use Rattle.path.specs.Pieces.{is_slash, pieces}
-use Rattle.path.specs.Invalid.{first, later, pieces_slash, pieces_other, pieces_split}
+use Rattle.path.proofs.Pieces.{first, later, pieces_slash, pieces_other, pieces_split}
 
 -- the first piece, and those behind it that are not empty
 

@@ -1,4 +1,3 @@
-pub mod Invalid
 pub mod Laws
 pub mod Normal
 pub mod Pieces

@@ -1,16 +1,16 @@
 #![tactic(auto)]
 
-ghost use Rattle.std.specs.Prelude.{◌≡◌, ℕ, false, List, codes};
+ghost use Rattle.std.specs.Prelude.{◌≡◌, ◌↔◌, IsTrue, ℕ, false, List, codes};
 ghost use Rattle.string_bytes.specs.Buffers.{AnswersLength, FillsFront};
-ghost use Rattle.path.specs.Invalid.{invalid_decided};
+ghost use Rattle.std.proofs.lemmas.Bool.{or_left};
+ghost use Rattle.rules.specs.Sets.{some_outside, strange_outside};
 ghost use Rattle.path.specs.Laws.{normal_settled, normal_bounded};
 ghost use Rattle.path.specs.Normal.{path_byte, normal_path, NormalPath};
 ghost use Rattle.path.specs.Pieces.{is_path_character, pieces, holds, is_no_path, is_invalid_path, InvalidPath, path_characters};
 
 use file_name::PortableCharacters;
-use rules::NormalForm;
-use rules::character_rule::CharacterRule;
-use rules::characters::starts_with;
+use rules::{NormalForm, SemanticStringAccessor};
+use rules::characters::{any_outside, starts_with};
 use rules::spelling::{Spelling, spelling_len, write_bytes, write_spelling};
 use string::pick::Pick;
 use string_view::error::BufferTooShort;
@@ -36,29 +36,36 @@ fn has_dot_dot(string: &[u8]) -> bool
         .any(|piece| piece == b"..".as_slice())
 }
 
+// Whether the bytes are no path, whatever characters they are.
+fn is_no_path(string: &[u8]) -> bool
+    ensures { result ≡ is_no_path string.now }
+{
+    string.is_empty() || has_dot_dot(string)
+}
+
 // The rule of a path.
 #[derive(Clone, Copy)]
 pub struct Path;
 
-impl CharacterRule for Path {
-    type Characters = PathCharacters;
+impl SemanticStringAccessor for Path {
+    ghost bad_characters = { λ _. some_outside is_path_character };
 
-    ghost allowed = { λ _. is_path_character };
+    ghost bad_content = { λ _. is_invalid_path };
 
-    ghost no_text = { λ _ s. is_no_path s };
+    ghost strange = { λ _. strange_outside is_path_character path_characters };
 
-    ghost Invalid = { λ _ s. InvalidPath s };
+    ghost wider = { λ _ s h. or_left _ _ h };
 
-    ghost within = { λ _. path_characters };
-
-    ghost decides = { λ _ s. invalid_decided s };
-
-    fn characters(&self) -> PathCharacters {
-        PathCharacters
+    fn does_contain_invalid_characters(&self, string: &[u8]) -> bool {
+        any_outside(&PathCharacters, string)
     }
 
-    fn is_no_text(&self, string: &[u8]) -> bool {
-        string.is_empty() || has_dot_dot(string)
+    // As the trait has it, and what it means.
+    fn is_invalid_content(&self, string: &[u8]) -> bool
+        ensures answer { result ≡ is_invalid_path string.now }
+        ensures meaning { IsTrue result ↔ InvalidPath string.now }
+    {
+        self.does_contain_invalid_characters(string) || is_no_path(string)
     }
 }
 

@@ -22,7 +22,7 @@ impl<'a, R, S> Told<'a, R, S> {
 
 impl<R: Print, S: StringView> Told<'_, R, S> {
     // Makes a correction, and tells what came of it, with the mark as it then stands.
-    pub fn correct<A: Into<Outcome>, F: FnOnce(&mut S) -> A>(
+    pub(crate) fn correct<A: Into<Outcome>, F: FnOnce(&mut S) -> A>(
         &mut self,
         asked: &str,
         correction: F,

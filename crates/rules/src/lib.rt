@@ -6,7 +6,6 @@ ghost use Rattle.string_bytes.specs.Buffers.{AnswersLength, FillsFront};
 
 use string_view::error::BufferTooShort;
 
-pub mod character_rule;
 pub mod characters;
 pub mod pair;
 pub mod spelling;

@@ -9,7 +9,7 @@ use Rattle.rules.proofs.Letters.{capital_is, small_is, digit_is}
 use Rattle.sail_mark.specs.Marks.{is_blank, is_invalid_mark, SailMarked, capital, mark_byte, normal_mark}
 use Rattle.sail_mark.specs.Laws.{blank_goes, other_stays}
 use Rattle.std.specs.List.{AllPass}
-use Rattle.sail_mark.specs.Invalid.{digit_no_blank, mark_decides, mark_valid}
+use Rattle.sail_mark.proofs.Marks.{digit_no_blank, mark_decides, mark_valid}
 
 pub normal_spelling : (s : List ℕ) → normal_mark s ≡ spelling mark_byte s
 normal_spelling [] = refl

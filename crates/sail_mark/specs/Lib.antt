@@ -1,3 +1,2 @@
-pub mod Invalid
 pub mod Laws
 pub mod Marks

@@ -1,16 +1,16 @@
 #![tactic(auto)]
 
-ghost use Rattle.std.specs.Prelude.{◌≡◌, ℕ, false, not, List, ◌++◌, map};
+ghost use Rattle.std.specs.Prelude.{◌≡◌, ◌↔◌, IsTrue, ℕ, false, not, List, ◌++◌, map};
 ghost use Rattle.std.specs.List.{list_all};
 ghost use Rattle.string_bytes.specs.Buffers.{AnswersLength, FillsFront};
 ghost use Rattle.rules.specs.Letters.{is_letter, is_digit};
+ghost use Rattle.std.proofs.lemmas.Bool.{or_left};
+ghost use Rattle.rules.specs.Sets.{some_outside, strange_outside};
 ghost use Rattle.sail_mark.specs.Marks.{is_mark_character, is_number, behind_blank, is_mark, is_invalid_mark, SailMarked, capital, mark_byte, normal_mark, mark_characters};
 ghost use Rattle.sail_mark.specs.Laws.{mark_settled, mark_bounded};
-ghost use Rattle.sail_mark.specs.Invalid.{invalid_decided};
 
-use rules::NormalForm;
-use rules::character_rule::CharacterRule;
-use rules::characters::{is_digit, is_letter};
+use rules::{NormalForm, SemanticStringAccessor};
+use rules::characters::{any_outside, is_digit, is_letter};
 use rules::spelling::{Spelling, write_spelling};
 use string::pick::Pick;
 use string_view::error::BufferTooShort;
@@ -69,25 +69,25 @@ fn is_mark(string: &[u8]) -> bool
 #[derive(Clone, Copy)]
 pub struct SailMark;
 
-impl CharacterRule for SailMark {
-    type Characters = MarkCharacters;
+impl SemanticStringAccessor for SailMark {
+    ghost bad_characters = { λ _. some_outside is_mark_character };
 
-    ghost allowed = { λ _. is_mark_character };
+    ghost bad_content = { λ _. is_invalid_mark };
 
-    ghost no_text = { λ _ s. not (is_mark s) };
+    ghost strange = { λ _. strange_outside is_mark_character mark_characters };
 
-    ghost Invalid = { λ _ s. SailMarked s → ⊥ };
+    ghost wider = { λ _ s h. or_left _ _ h };
 
-    ghost within = { λ _. mark_characters };
-
-    ghost decides = { λ _ s. invalid_decided s };
-
-    fn characters(&self) -> MarkCharacters {
-        MarkCharacters
+    fn does_contain_invalid_characters(&self, string: &[u8]) -> bool {
+        any_outside(&MarkCharacters, string)
     }
 
-    fn is_no_text(&self, string: &[u8]) -> bool {
-        !is_mark(string)
+    // As the trait has it, and what it means.
+    fn is_invalid_content(&self, string: &[u8]) -> bool
+        ensures answer { result ≡ is_invalid_mark string.now }
+        ensures meaning { IsTrue result ↔ (SailMarked string.now → ⊥) }
+    {
+        self.does_contain_invalid_characters(string) || !is_mark(string)
     }
 }
 

@@ -69,9 +69,9 @@ impl Call<'_> {
     fn fill<S: StringView>(&self, s: &mut S) -> Option<Answer> {
         Some(match self.word {
             "put" => s.put(self.first, self.bytes).into(),
-            "insert" => insert(s, self.first, byte(self.second)?).into(),
+            "insert" => insert(s, self.first, low_byte(self.second)).into(),
             "insert_bytes" => insert_bytes(s, self.first, self.bytes).into(),
-            "push" => push(s, byte(self.first)?).into(),
+            "push" => push(s, low_byte(self.first)).into(),
             "push_bytes" => push_bytes(s, self.bytes).into(),
             "from_bytes" => from_bytes(s, self.bytes).into(),
             "from_bytes_truncated" => from_bytes_truncated(s, self.bytes).into(),
@@ -92,21 +92,21 @@ impl Call<'_> {
             "clear" => clear(s).into(),
             "truncate" => truncate(s, self.first).into(),
             "retain_list" => retain(s, &ByteList { bytes: self.bytes }).into(),
-            "retain_range" => retain(s, &self.range()?).into(),
+            "retain_range" => retain(s, &self.range()).into(),
             _ => return None,
         })
     }
 
-    // The bytes from the first number to the second, where both are bytes.
-    fn range(&self) -> Option<ByteRange> {
-        Some(ByteRange {
-            first: byte(self.first)?,
-            last: byte(self.second)?,
-        })
+    // The bytes from the first number to the second.
+    fn range(&self) -> ByteRange {
+        ByteRange {
+            first: low_byte(self.first),
+            last: low_byte(self.second),
+        }
     }
 }
 
-// A number as a byte, where it is one.
-fn byte(number: usize) -> Option<u8> {
-    u8::try_from(number).ok()
+// A number's last eight bits.
+fn low_byte(number: usize) -> u8 {
+    (number & 0xff) as u8
 }

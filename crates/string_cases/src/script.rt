@@ -1,19 +1,37 @@
-use anyhow::Context;
-use std::alloc::Global;
+ghost use Rattle.std.specs.Prelude.{◌<◌};
+
+use std::alloc::{AllocError, Global};
 use std::fmt;
 use string_view::StringView;
 use string_view::bytes::bytes_of;
 
 // A line has a word, up to two numbers, and up to one text in quotes, in which \xNN is the byte of that code.
 
+// The value of a small hex digit, and 0 of any other byte.
+fn digit(b: u8) -> u8
+    ensures { result < 16 }
+{
+    match b {
+        b'0'..=b'9' => b - b'0',
+        b'a'..=b'f' => b - b'a' + 10,
+        _ => 0,
+    }
+}
+
 // The bytes of a text as it stands in a line.
-pub fn decoded(heap: Global, text: &str) -> anyhow::Result<Vec<u8>> {
-    let mut pieces = text.split("\\x");
-    let mut bytes = pieces.next().unwrap_or("").as_bytes().to_vec(heap)?;
-    for piece in pieces {
-        let (code, plain) = piece.split_at_checked(2).context("no code behind \\x")?;
-        bytes.push(u8::from_str_radix(code, 16)?)?;
-        bytes.extend_from_slice(plain.as_bytes())?;
+pub fn decoded(heap: Global, text: &str) -> Result<Vec<u8>, AllocError> {
+    let mut bytes = Vec::new(heap);
+    let mut rest = text.as_bytes();
+    while let [first, others @ ..] = rest {
+        rest = others;
+        let mut byte = *first;
+        if byte == b'\\' {
+            if let [b'x', high, low, behind @ ..] = others {
+                byte = digit(*high) * 16 + digit(*low);
+                rest = behind;
+            }
+        }
+        bytes.push(byte)?;
     }
     Ok(bytes)
 }

@@ -41,7 +41,7 @@ impl<'a, P: Print, T: Legible> Told<'a, P, T> {
     }
 
     // Makes a correction, and tells what came of it, with the text as it then stands.
-    pub fn correct<A: Into<Outcome>, F: FnOnce(&mut T) -> A>(
+    pub(crate) fn correct<A: Into<Outcome>, F: FnOnce(&mut T) -> A>(
         &mut self,
         asked: &str,
         correction: F,

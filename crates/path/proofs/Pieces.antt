@@ -1,4 +1,4 @@
-use Rattle.std.specs.Prelude.{◌≡◌, ◌↔◌, IsTrue, ℕ, true, false, ◌⊎◌, List, [], ◌∷◌, ◌++◌, codes, refl}
+use Rattle.std.specs.Prelude.{◌≡◌, ◌↔◌, IsTrue, ℕ, Bool, true, false, ◌⊎◌, List, [], ◌∷◌, ◌++◌, codes, refl}
 use Rattle.std.proofs.Common.{Decides, sym, ap, ◌∙◌, inl, inr}
 use Rattle.std.proofs.lemmas.Slice.Eq.{bytes_eq-Decides}
 use Rattle.std.proofs.lemmas.List.{append_assoc, append-nil}
@@ -6,7 +6,7 @@ use Rattle.std.proofs.lemmas.List.Elements.{All-nil, All-cons}
 use Rattle.std.proofs.lemmas.List.Folds.{list_any-append}
 use Rattle.std.proofs.lemmas.List.Splits.{slice_split-cons_yes, slice_split-cons_no, slice_split_none, slice_split_at}
 use Rattle.std.proofs.lemmas.Bool.{cases_Bool, or_cases, or_left, or_right, eqb-true, false≢true}
-use Rattle.std.proofs.lemmas.Bool.Decides.{Decides-or, Decides-like}
+use Rattle.std.proofs.lemmas.Bool.Decides.{Decides-at, Decides-or, Decides-like}
 use Rattle.std.specs.List.{All, onto_first}
 use Rattle.std.specs.Str.{bytes_eq}
 use Rattle.rules.proofs.Sets.{Outside, outside_decides}
@@ -174,8 +174,12 @@ to_test s (strange i h e) = inl (i, h, e)
 to_test s (empty e) = inr (inl e)
 to_test s (dot_dot w) = inr (inr w)
 
-pub invalid_decided : (s : List ℕ) → IsTrue (is_invalid_path s) ↔ InvalidPath s
-invalid_decided s =
+decided : (s : List ℕ) → IsTrue (is_invalid_path s) ↔ InvalidPath s
+decided s =
     Decides-like _ (tested s) (to_test s)
     (Decides-or _ _ (outside_decides is_path_character s)
     (Decides-or _ _ (bytes_eq-Decides s []) (piece_decides s (codes ".."))))
+
+-- an answer that is the test's decides it
+pub invalid_decided : (s : List ℕ) (b : Bool) → b ≡ is_invalid_path s → IsTrue b ↔ InvalidPath s
+invalid_decided s b e = Decides-at _ _ e (decided s)

@@ -1,11 +1,10 @@
-use Rattle.std.specs.Prelude.{◌≡◌, ◌↔◌, IsTrue, ℕ, ◌||◌, ◌⊎◌, List, [], ◌++◌, take, drop, codes}
+use Rattle.std.specs.Prelude.{◌≡◌, ◌↔◌, IsTrue, ℕ, Bool, ◌⊎◌, List, [], ◌++◌, take, drop, codes}
 use Rattle.std.proofs.Common.{sym, ap, ◌∙◌, inl, inr}
 use Rattle.std.proofs.lemmas.Slice.Eq.{bytes_eq-Decides}
 use Rattle.std.proofs.lemmas.List.{take-append-drop}
-use Rattle.std.proofs.lemmas.Bool.Decides.{Decides-or, Decides-like}
-use Rattle.rules.specs.Sets.{some_outside}
+use Rattle.std.proofs.lemmas.Bool.Decides.{Decides-at, Decides-or, Decides-like}
 use Rattle.rules.proofs.Sets.{Outside, outside_decides}
-use Rattle.file_name.specs.Names.{is_portable, is_no_name, InvalidName, strange, empty, dot, dot_dot, hyphen}
+use Rattle.file_name.specs.Names.{is_portable, is_invalid_name, InvalidName, strange, empty, dot, dot_dot, hyphen}
 
 -- the tests that the code makes, by what each says
 abbrev Tests : List ℕ → Type 0
@@ -25,9 +24,13 @@ to_test s (dot e) = inr (inl (inr e))
 to_test s (dot_dot e) = inr (inr (inl e))
 to_test s (hyphen rest e) = inr (inr (inr (ap (take 1) e)))
 
-pub invalid_decided : (s : List ℕ) → IsTrue (some_outside is_portable s || is_no_name s) ↔ InvalidName s
-invalid_decided s =
+decided : (s : List ℕ) → IsTrue (is_invalid_name s) ↔ InvalidName s
+decided s =
     Decides-like _ (tested s) (to_test s)
     (Decides-or _ _ (outside_decides is_portable s)
     (Decides-or _ _ (Decides-or _ _ (bytes_eq-Decides s []) (bytes_eq-Decides s (codes ".")))
     (Decides-or _ _ (bytes_eq-Decides s (codes "..")) (bytes_eq-Decides (take 1 s) (codes "-")))))
+
+-- an answer that is the test's decides it
+pub invalid_decided : (s : List ℕ) (b : Bool) → b ≡ is_invalid_name s → IsTrue b ↔ InvalidName s
+invalid_decided s b e = Decides-at _ _ e (decided s)

@@ -5,7 +5,7 @@ use Rattle.std.proofs.lemmas.List.Elements.{All-append, All-head, All-weaker}
 use Rattle.std.proofs.lemmas.List.Recursion.{or_from_places}
 use Rattle.std.proofs.lemmas.List.Sums.{AllPass-from_list_all, list_all-from_AllPass}
 use Rattle.std.proofs.lemmas.Bool.{and_from, both_ways, cond_both, leb-true, le-leb, not_from_true, or_from, or_left, or_right}
-use Rattle.std.proofs.lemmas.Bool.Decides.{nat_tests, Decides-and, Decides-like, Decides-not}
+use Rattle.std.proofs.lemmas.Bool.Decides.{Decides-at, nat_tests, Decides-and, Decides-like, Decides-not}
 use Rattle.std.specs.List.{list_all, AllPass}
 use Rattle.std.specs.Str.{bytes_eq}
 use Rattle.rules.specs.Letters.{is_letter, is_digit}
@@ -106,5 +106,9 @@ mark_valid s m =
     or_from _ _ (or_from_places (some_outside is_mark_character) (λ b. not (is_mark_character b)) refl (λ _ _. refl) s 0 (λ i h. not_from_true _ (mark_inside s m i 0 h)))
     (not_from_true _ ((mark_decides s).1 m))
 
-pub invalid_decided : (s : List ℕ) → IsTrue (is_invalid_mark s) ↔ (SailMarked s → ⊥)
-invalid_decided s = (λ e m. both_ways _ (mark_valid s m) e, λ none. or_right _ _ ((Decides-not _ (mark_decides s)).1 none))
+decided : (s : List ℕ) → IsTrue (is_invalid_mark s) ↔ (SailMarked s → ⊥)
+decided s = (λ e m. both_ways _ (mark_valid s m) e, λ none. or_right _ _ ((Decides-not _ (mark_decides s)).1 none))
+
+-- an answer that is the test's decides it
+pub invalid_decided : (s : List ℕ) (b : Bool) → b ≡ is_invalid_mark s → IsTrue b ↔ (SailMarked s → ⊥)
+invalid_decided s b e = Decides-at _ _ e (decided s)
