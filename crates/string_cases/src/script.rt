@@ -22,18 +22,15 @@ fn digit(b: u8) -> u8
 pub fn decoded(heap: Global, text: &str) -> Result<Vec<u8>, AllocError> {
     let mut bytes = Vec::new(heap);
     let mut rest = text.as_bytes();
-    while let [first, others @ ..] = rest {
-        rest = others;
-        let mut byte = *first;
-        if byte == b'\\' {
-            if let [b'x', high, low, behind @ ..] = others {
-                byte = digit(*high) * 16 + digit(*low);
-                rest = behind;
-            }
-        }
+    loop {
+        let (byte, behind) = match rest {
+            [b'\\', b'x', high, low, behind @ ..] => (digit(*high) * 16 + digit(*low), behind),
+            [byte, behind @ ..] => (*byte, behind),
+            [] => return Ok(bytes),
+        };
         bytes.push(byte)?;
+        rest = behind;
     }
-    Ok(bytes)
 }
 
 // The text of a storage as it would stand in a line. The library's `escape_ascii` has escapes that a line has not.
