@@ -11,7 +11,7 @@ use string_view::error::RegionTooShort;
 #[derive(Drop)]
 pub struct RelocatableStringUninit {
     capacity: u8,
-    ghost small: { capacity ≤ 255 },
+    pub ghost small: { capacity ≤ 255 },
 }
 
 // A string in cells that its owner lends. Its first cells hold the text, the others up to cell number
@@ -22,9 +22,9 @@ pub struct RelocatableString<'a> {
     region: &'a mut [u8],
     capacity: u8,
     len: u8,
-    ghost small: { capacity ≤ 255 },
-    ghost within: { len ≤ room_in capacity (length region.now) },
-    ghost closed: { closed_in capacity len region.now },
+    pub ghost small: { capacity ≤ 255 },
+    pub ghost within: { len ≤ room_in capacity (length region.now) },
+    pub ghost closed: { closed_in capacity len region.now },
 }
 
 impl RelocatableString<'_> {

@@ -31,8 +31,8 @@ use error::{SemanticStringError, passed_on};
 pub struct SemanticString<S: StringView, R: SemanticStringAccessor> {
     storage: S,
     rule: R,
-    ghost valid: { R.bad_content rule (S.seq storage) ≡ false },
-    ghost fits: { length (S.seq storage) ≤ S.room storage },
+    pub ghost valid: { R.bad_content rule (S.seq storage) ≡ false },
+    pub ghost fits: { length (S.seq storage) ≤ S.room storage },
 }
 
 impl<S: StringView + Drop, R: SemanticStringAccessor + Drop> SemanticString<S, R> {

@@ -12,8 +12,8 @@ pub struct StaticString {
     data: [u8; 255],
     capacity: u8,
     len: u8,
-    ghost small: { capacity ≤ 255 },
-    ghost within: { len ≤ capacity },
+    pub ghost small: { capacity ≤ 255 },
+    pub ghost within: { len ≤ capacity },
 }
 
 impl StaticString {
