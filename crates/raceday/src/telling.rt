@@ -7,7 +7,8 @@ use std::{fmt, io};
 use string_view::StringView;
 use string_view::error::{Numbered, StringModificationError};
 
-// A mark in hand, and where its corrections are told.
+// A mark in hand, and where its corrections are told. textday has one of its own, for checked texts: to share it, a
+// trait for how a text is read would have to stand between.
 #[derive(Drop)]
 pub struct Told<'a, R, S> {
     pub rt: &'a R,

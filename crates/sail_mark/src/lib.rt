@@ -27,7 +27,8 @@ impl Pick for MarkCharacters {
     }
 }
 
-// Whether every byte is a letter.
+// Whether every byte is a letter. This and the next are two, since a test as a parameter would have to be required to
+// be callable.
 fn are_letters(string: &[u8]) -> bool
     ensures { result ≡ list_all is_letter string.now }
 {
@@ -69,6 +70,8 @@ fn is_mark(string: &[u8]) -> bool
 #[derive(Clone, Copy)]
 pub struct SailMark;
 
+// Offered by each rule itself: beside a blanket `impl` for rules by characters, no function that holds a checked
+// text under a `Pair` is covered.
 impl SemanticStringAccessor for SailMark {
     ghost bad_characters = { λ _. some_outside is_mark_character };
 

@@ -70,6 +70,8 @@ impl<S: StringView + Drop, R: SemanticStringAccessor + Drop> SemanticString<S, R
     }
 }
 
+// The edits differ in the plain call, which each makes on two types, a copy and the storage; so none of them can take
+// it as a closure.
 impl<S: StringView, R: SemanticStringAccessor> SemanticString<S, R> {
     ghost use Rattle.semantic_string.specs.Texts.{Settled, Checked, text_of, room_of, bad_of};
 

@@ -25,7 +25,7 @@ impl<S: StringView, R: NormalForm> SemanticString<S, R> {
         self.rule.normalize(text.as_slice(), buffer)
     }
 
-    // The normal form, as a string of its own.
+    // The normal form, as a string of its own, by way of a buffer, since that is what a rule writes into.
     fn normalized(&self) -> StaticString
         ensures { fixed.text_of result ≡ normal_of R.NormalForm.own self.now }
     {

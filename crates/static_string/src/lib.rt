@@ -54,6 +54,7 @@ impl StaticString {
     }
 }
 
+// As for cells that are lent, but for whose they are: what the two share is in `cells`.
 impl StringView for StaticString {
     ghost use Rattle.static_string.specs.Fixed.{room_of, text_of, is_small, is_short};
 

@@ -106,7 +106,7 @@ impl Call<'_> {
     }
 }
 
-// A number's last eight bits.
+// A number's last eight bits; the library's conversions refuse a larger one.
 fn low_byte(number: usize) -> u8 {
     (number & 0xff) as u8
 }

@@ -7,7 +7,7 @@ use string_view::bytes::bytes_of;
 
 // A line has a word, up to two numbers, and up to one text in quotes, in which \xNN is the byte of that code.
 
-// The value of a small hex digit, and 0 of any other byte.
+// The value of a small hex digit, and 0 of any other byte; `to_digit` would take capitals.
 fn digit(b: u8) -> u8
     ensures { result < 16 }
 {

@@ -43,6 +43,7 @@ pub fn bytes_from<S: StringView>(s: &S, place: usize) -> Bytes<'_, S>
 pub fn copy_bytes<S: StringView>(s: &S, buffer: &mut [u8])
     ensures cells { buffer.new ≡ take (length buffer.old) (S.seq s.now) ++ drop (length (S.seq s.now)) buffer.old }
 {
+    // by place: after a `zip` with `iter_mut` a proof does not know the cells
     for (place, byte) in bytes_of(s).enumerate().take(buffer.len()) {
         buffer[place] = byte;
     }
