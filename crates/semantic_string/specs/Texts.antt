@@ -1,11 +1,12 @@
-use Rattle.std.specs.Prelude.{◌≡◌, ℕ, Bool, List, [], ◌∷◌, is_ok, Ok, Err, Result, MatchResult, if◌then◌else◌}
+use Rattle.std.specs.Prelude.{◌≡◌, ℕ, Bool, List, [], ◌∷◌, ◌++◌, is_ok, Ok, Err, Result, MatchResult, if◌then◌else◌}
 use Rattle.string_view.specs.Checks.{first_fail, answered}
 use Rattle.string_view.specs.Refusals.{Refusal}
+use Rattle.string_view.specs.Sequences.{inserted}
 use Rattle.string_view.specs.Views.{Frame}
 use Rattle.string_view.specs.declared.StringView as view
 use Rattle.rules.specs.declared.SemanticStringAccessor as accessor
-use Rattle.semantic_string.specs.Checks.{content}
-use Rattle.semantic_string.specs.Edits.{Outcome}
+use Rattle.semantic_string.specs.Checks.{content, inserting, pushing}
+use Rattle.semantic_string.specs.Edits.{Outcome, outcome}
 use Rattle.semantic_string.specs.Refusals.{semantic_told}
 use Rattle.semantic_string.specs.declared.SemanticString.{SemanticString}
 use Rattle.semantic_string.specs.declared.error.SemanticStringError.{SemanticStringError}
@@ -38,6 +39,14 @@ module _ {S R : Type 0} {v : view.Ghosts S} {a : accessor.Ghosts R} where
   -- an edit that only the rule can refuse
   abbrev pub Checked : {A : Type 0} → (List ℕ → Outcome A) → SemanticString S R v a → SemanticString S R v a → Result A SemanticStringError → Type 0
   Checked edit earlier later r = Settled (content (bad_of earlier) (edit (text_of earlier)).sequence ∷ []) (edit (text_of earlier)) earlier later r
+
+  -- an insertion of b at p
+  abbrev pub Inserted : ℕ → List ℕ → SemanticString S R v a → SemanticString S R v a → Result (Unit {0}) SemanticStringError → Type 0
+  Inserted p b earlier later r = Settled (inserting (bad_of earlier) (room_of earlier) (text_of earlier) p b) (outcome tt (inserted p b (text_of earlier))) earlier later r
+
+  -- an insertion of b at the end
+  abbrev pub Appended : List ℕ → SemanticString S R v a → SemanticString S R v a → Result (Unit {0}) SemanticStringError → Type 0
+  Appended b earlier later r = Settled (pushing (bad_of earlier) (room_of earlier) (text_of earlier) b) (outcome tt (text_of earlier ++ b)) earlier later r
 
   -- a set-up's answer, but for the text that was made
   abbrev pub set_up_as : Result (SemanticString S R v a) SemanticStringError → Result (Unit {0}) SemanticStringError

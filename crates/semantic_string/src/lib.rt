@@ -3,12 +3,11 @@
 ghost use Rattle.std.specs.Prelude.{◌≡◌, ◌-◌, ◌≤◌, false, [], ◌∷◌, ◌++◌, length, is_ok, if◌then◌else◌, ◌==◌, nat_le};
 ghost use Rattle.static_string.specs.Fixed as fixed;
 ghost use Rattle.string_view.specs.Checks.{first_fail, answered};
-ghost use Rattle.string_view.specs.Sequences.{inserted};
 ghost use Rattle.string_search.specs.Search.{Stands, First, Last};
 ghost use Rattle.string_bytes.specs.Buffers.{AnswersLength, FillsFront};
 ghost use Rattle.string_bytes.specs.Terminated.{terminated};
-ghost use Rattle.semantic_string.specs.Checks.{content, setting_up, inserting, pushing};
-ghost use Rattle.semantic_string.specs.Edits.{outcome, removal, range_removal, retention, truncation, front_strip, end_strip};
+ghost use Rattle.semantic_string.specs.Checks.{content, setting_up};
+ghost use Rattle.semantic_string.specs.Edits.{removal, range_removal, retention, truncation, front_strip, end_strip};
 ghost use Rattle.semantic_string.specs.Refusals.{semantic_told};
 
 use rules::SemanticStringAccessor;
@@ -73,7 +72,7 @@ impl<S: StringView + Drop, R: SemanticStringAccessor + Drop> SemanticString<S, R
 // The edits differ in the plain call, which each makes on two types, a copy and the storage; so none of them can take
 // it as a closure.
 impl<S: StringView, R: SemanticStringAccessor> SemanticString<S, R> {
-    ghost use Rattle.semantic_string.specs.Texts.{Settled, Checked, text_of, room_of, bad_of};
+    ghost use Rattle.semantic_string.specs.Texts.{Inserted, Appended, Checked, text_of, room_of, bad_of};
 
     // The storage, to ask.
     pub fn as_string(&self) -> &S
@@ -144,14 +143,14 @@ impl<S: StringView, R: SemanticStringAccessor> SemanticString<S, R> {
 
     // Inserts a byte at a place.
     pub fn insert(&mut self, idx: usize, byte: u8) -> Result<(), SemanticStringError>
-        ensures edit { Settled (inserting (bad_of self.old) (room_of self.old) (text_of self.old) idx (byte ∷ [])) (outcome tt (inserted idx (byte ∷ []) (text_of self.old))) self.old self.new result }
+        ensures edit { Inserted idx (byte ∷ []) self.old self.new result }
     {
         self.insert_bytes(idx, &[byte])
     }
 
     // Inserts bytes at a place.
     pub fn insert_bytes(&mut self, idx: usize, bytes: &[u8]) -> Result<(), SemanticStringError>
-        ensures edit { Settled (inserting (bad_of self.old) (room_of self.old) (text_of self.old) idx bytes.now) (outcome tt (inserted idx bytes.now (text_of self.old))) self.old self.new result }
+        ensures edit { Inserted idx bytes.now self.old self.new result }
     {
         let mut trial = StaticString::copy_of(&self.storage);
         insert_bytes(&mut trial, idx, bytes).map_err(passed_on)?;
@@ -170,14 +169,14 @@ impl<S: StringView, R: SemanticStringAccessor> SemanticString<S, R> {
 
     // Inserts a byte at the end.
     pub fn push(&mut self, byte: u8) -> Result<(), SemanticStringError>
-        ensures edit { Settled (pushing (bad_of self.old) (room_of self.old) (text_of self.old) (byte ∷ [])) (outcome tt (text_of self.old ++ (byte ∷ []))) self.old self.new result }
+        ensures edit { Appended (byte ∷ []) self.old self.new result }
     {
         self.push_bytes(&[byte])
     }
 
     // Inserts bytes at the end.
     pub fn push_bytes(&mut self, bytes: &[u8]) -> Result<(), SemanticStringError>
-        ensures edit { Settled (pushing (bad_of self.old) (room_of self.old) (text_of self.old) bytes.now) (outcome tt (text_of self.old ++ bytes.now)) self.old self.new result }
+        ensures edit { Appended bytes.now self.old self.new result }
     {
         let len = self.len();
         self.insert_bytes(len, bytes)
