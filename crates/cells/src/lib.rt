@@ -4,9 +4,9 @@ ghost use Rattle.std.specs.Prelude.{◌≡◌, ◌+◌, ◌-◌, ◌≤◌, ◌&
 ghost use Rattle.std.specs.List.{copy_within};
 ghost use Rattle.cells.specs.Texts.{inserting, removing, usable};
 
-// A text in plain cells: its bytes are the first `len` cells, and a part of those behind it is free for more. The
-// cells and the length come as two values, since each string keeps them as fields of its own: a struct round them
-// would hold two `&mut`, and every clause on one would have to speak of both.
+// A text in plain cells: its bytes are the first `len` cells, and a part of those behind it is free for more. Cells,
+// capacity and length come as values of their own: one string owns its cells and one borrows them, so that a struct
+// round the three would be made and taken apart at each call.
 
 // As `copy_within`, for at most 255 cells. This compiles to one memmove, while `copy_within` goes cell by cell: with
 // it an insertion and a removal took 1.5 to 1.8 times as long in the middle of 240 bytes, and up to 1.2 times of 64.

@@ -7,8 +7,8 @@ use std::{fmt, io};
 use string_view::StringView;
 use string_view::error::{Numbered, StringModificationError};
 
-// A mark in hand, and where its corrections are told. textday has one of its own, for checked texts: to share it, a
-// trait for how a text is read would have to stand between.
+// A mark in hand, and where its corrections are told. textday has one of its own, for checked texts: what the two could
+// share, a struct, a method and how a text is shown, is less than the crate and the trait that would have to carry it.
 #[derive(Drop)]
 pub struct Told<'a, R, S> {
     pub rt: &'a R,

@@ -99,6 +99,7 @@ impl RelocatableStringUninit {
     }
 }
 
+// Beside StaticString's calls, the reason stands there.
 impl<'a> StringView for RelocatableString<'a> {
     ghost use Rattle.cells.specs.Texts.{inserting, removing};
     ghost use Rattle.string_view.specs.Frames.{Kept};

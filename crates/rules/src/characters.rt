@@ -28,7 +28,7 @@ pub fn any_outside<P: Pick>(pick: &P, string: &[u8]) -> bool
     string.iter().any(|byte| !pick.picks(*byte))
 }
 
-// Whether the bytes are those of the word: a public name, for rules in other crates.
+// Whether the bytes are those of the word: a public name, for rules in other crates; nothing here calls it.
 pub fn spells(string: &[u8], word: &[u8]) -> bool
     ensures answer { result ≡ bytes_eq string.now word.now }
 {

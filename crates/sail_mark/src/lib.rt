@@ -1,6 +1,6 @@
 #![tactic(auto)]
 
-ghost use Rattle.std.specs.Prelude.{◌≡◌, ◌↔◌, IsTrue, ℕ, false, not, List, ◌++◌, map};
+ghost use Rattle.std.specs.Prelude.{◌≡◌, ◌↔◌, IsTrue, ℕ, false, List, ◌++◌, map};
 ghost use Rattle.std.specs.List.{list_all};
 ghost use Rattle.string_bytes.specs.Buffers.{AnswersLength, FillsFront};
 ghost use Rattle.rules.specs.Letters.{is_letter, is_digit};
@@ -27,8 +27,8 @@ impl Pick for MarkCharacters {
     }
 }
 
-// Whether every byte is a letter. This and the next are two, since a test as a parameter would have to be required to
-// be callable.
+// Whether every byte is a letter. This and the next stand alone: within a longer condition the check does not find what
+// `all` answers.
 fn are_letters(string: &[u8]) -> bool
     ensures { result ≡ list_all is_letter string.now }
 {

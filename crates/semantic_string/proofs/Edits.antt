@@ -1,16 +1,13 @@
-use Rattle.std.proofs.Common.{◌≤◌, ◌≡◌, ℕ, ◌-◌, Bool, true, false, List, ◌++◌, length, take, drop, sym, refl, ap, ◌∙◌, inl, inr, arith}
+use Rattle.std.proofs.Common.{◌≤◌, ◌≡◌, ℕ, ◌-◌, Bool, true, false, List, ◌++◌, length, take, drop, sym, refl, ap, ◌∙◌, arith}
 use Rattle.std.proofs.lemmas.Slice.Eq.{bytes_eq-Decides}
 use Rattle.std.proofs.lemmas.List.Prefix.{front_rest, end_rest}
 use Rattle.std.proofs.lemmas.List.{length-append, take_at, take-append-drop}
-use Rattle.std.proofs.lemmas.Bool.{cases_Bool, cond-true, cond-false}
+use Rattle.std.proofs.lemmas.Bool.{false_from_ne_true, cond-true, cond-false}
 use Rattle.std.specs.Str.{bytes_eq}
 use Rattle.string_search.specs.Search.{StrippedFront, StrippedEnd}
 use Rattle.semantic_string.specs.Edits.{outcome, front_strip, end_strip}
 
 -- what the plain edits promise is what they come to
-
-false_from : (b : Bool) → (b ≡ true → ⊥) → b ≡ false
-false_from b never = elim (cases_Bool b) [ inl t ↦ absurd (never t) | inr f ↦ f ]
 
 pub front_strip_is : (b : Bool) (s p t : List ℕ) → StrippedFront b s p t → outcome b t ≡ front_strip p s
 front_strip_is true s p t e =
@@ -18,7 +15,7 @@ front_strip_is true s p t e =
     ap (outcome true) (sym (front_rest s p t e)) ∙ sym (cond-true (bytes_eq (take (length p) s) p) (outcome true (drop (length p) s)) (outcome false s) yes)
 front_strip_is false s p t h =
     let unlike =
-    false_from (bytes_eq (take (length p) s) p)
+    false_from_ne_true (bytes_eq (take (length p) s) p)
     (λ y. h.1 (drop (length p) s) (sym (take-append-drop (length p) s) ∙ ap (λ z. z ++ drop (length p) s) ((bytes_eq-Decides (take (length p) s) p).0 y))) in
     ap (outcome false) h.0 ∙ sym (cond-false (bytes_eq (take (length p) s) p) (outcome true (drop (length p) s)) (outcome false s) unlike)
 
@@ -31,7 +28,7 @@ end_strip_is true s p t e =
 end_strip_is false s p t h =
     let k = length s - length p in
     let unlike =
-    false_from (bytes_eq (drop k s) p)
+    false_from_ne_true (bytes_eq (drop k s) p)
     (λ y. h.1 (take k s) (sym (take-append-drop k s) ∙ ap (λ z. take k s ++ z) ((bytes_eq-Decides (drop k s) p).0 y))) in
     ap (outcome false) h.0 ∙ sym (cond-false (bytes_eq (drop k s) p) (outcome true (take k s)) (outcome false s) unlike)
 

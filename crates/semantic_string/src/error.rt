@@ -41,7 +41,7 @@ impl From<StringModificationError> for SemanticStringError {
     }
 }
 
-// What a text answers where the plain string refuses the bytes.
+// What a text answers where the plain string refuses the bytes. `From` is taken: it is the Rust's, which drops the refusal.
 pub(crate) fn passed_on(error: StringModificationError) -> SemanticStringError
     ensures { result ≡ passed_on error }
 {

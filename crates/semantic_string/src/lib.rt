@@ -1,6 +1,6 @@
 #![tactic(auto)]
 
-ghost use Rattle.std.specs.Prelude.{◌≡◌, ◌-◌, ◌≤◌, false, [], ◌∷◌, ◌++◌, length, is_ok, if◌then◌else◌, ◌==◌, nat_le};
+ghost use Rattle.std.specs.Prelude.{◌≡◌, ◌-◌, ◌≤◌, false, [], ◌∷◌, ◌++◌, length, ◌==◌, nat_le};
 ghost use Rattle.static_string.specs.Fixed as fixed;
 ghost use Rattle.string_view.specs.Checks.{first_fail, answered};
 ghost use Rattle.string_search.specs.Search.{Stands, First, Last};

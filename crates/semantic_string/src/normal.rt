@@ -1,6 +1,5 @@
-ghost use Rattle.std.specs.Prelude.{◌≡◌, false, [], ◌∷◌, length, is_ok, ◌↔◌, IsTrue};
+ghost use Rattle.std.specs.Prelude.{◌≡◌, ◌↔◌, IsTrue, false};
 ghost use Rattle.static_string.specs.Fixed as fixed;
-ghost use Rattle.string_view.specs.Checks.{first_fail, answered};
 ghost use Rattle.string_search.specs.Order.{Compared, TotalOrder};
 ghost use Rattle.string_bytes.specs.Buffers.{AnswersLength, FillsFront};
 ghost use Rattle.semantic_string.specs.Normal.{normal_of};

@@ -54,7 +54,8 @@ impl StaticString {
     }
 }
 
-// As for cells that are lent, but for whose they are: what the two share is in `cells`.
+// Each call is the line or two above `insert_into`, `remove_from` and `get` that a lent string has too; a trait for whose
+// the cells are would be longer.
 impl StringView for StaticString {
     ghost use Rattle.static_string.specs.Fixed.{room_of, text_of, is_small, is_short};
 

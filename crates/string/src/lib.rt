@@ -16,7 +16,8 @@ pub mod pick;
 use pick::Pick;
 
 // Each call stands once, over any storage. What it asks and answers of the text, the storage's meaning turns
-// into bytes; what the storage keeps through every call, each call keeps.
+// into bytes; what the storage keeps through every call, each call keeps. The three clauses of a call that may refuse,
+// answer, text and frame, are an equation of named words each; one word for all three would hide what a reader looks for.
 
 // Removes all bytes.
 pub fn clear<S: StringView>(s: &mut S)
@@ -51,7 +52,7 @@ pub fn insert<S: StringView>(s: &mut S, idx: usize, byte: u8) -> Result<(), Stri
 }
 
 // The place of the first byte that is no character, if there is one.
-// The loop goes by an index, since a rule of the project fixes that form.
+// The loop goes by an index: that form is fixed (docs/DECISIONS.md, "Forms that are fixed").
 pub fn first_bad(bytes: &[u8]) -> Option<usize>
     ensures place { unwrap_or result (length bytes.now) ≡ first_bad bytes.now }
     ensures first { FirstPlace (λ b. not (is_character b)) bytes.now result }

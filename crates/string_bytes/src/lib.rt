@@ -1,6 +1,6 @@
 #![tactic(auto)]
 
-ghost use Rattle.std.specs.Prelude.{◌≡◌, ◌≤◌, [], ◌∷◌, ◌++◌, length, take, is_ok, if◌then◌else◌};
+ghost use Rattle.std.specs.Prelude.{◌≡◌, [], ◌∷◌, ◌++◌, take, is_ok, if◌then◌else◌};
 ghost use Rattle.string_view.specs.Checks.{first_fail, answered, characters, loading};
 ghost use Rattle.string_view.specs.Refusals.{told};
 ghost use Rattle.string_view.specs.Views.{Frame};

@@ -35,7 +35,8 @@ impl<'a> Call<'a> {
 
 impl Call<'_> {
     // What a string answers to the call; none, where no call has the word. Each word stands once, beside what it
-    // runs: an enum of them, or a table of closures, would list them a second time or hide the calls' arguments.
+    // runs: an enum of them, or a table of closures, would list them a second time or hide the calls' arguments. A
+    // question asks a string that it cannot change, so that the words stand in three functions.
     pub fn send<S: StringView>(&self, s: &mut S) -> Option<Answer> {
         self.ask(s).or_else(|| self.fill(s)).or_else(|| self.cut(s))
     }
@@ -52,6 +53,7 @@ impl Call<'_> {
             "rfind" => rfind(s, self.bytes).into(),
             "same" => same(s, &self.other()).into(),
             "compare" => compare(s, &self.other()).into(),
+            // the script's answers have a number here
             "first_bad" => first_bad(self.bytes).unwrap_or(self.bytes.len()).into(),
             "strnlen" => strnlen(self.bytes, self.first).into(),
             _ => return None,
@@ -106,7 +108,7 @@ impl Call<'_> {
     }
 }
 
-// A number's last eight bits; the library's conversions refuse a larger one.
+// A number's last eight bits, in the language's own form of a cast that cuts.
 fn low_byte(number: usize) -> u8 {
     (number & 0xff) as u8
 }

@@ -10,8 +10,8 @@ use std::{fmt, io};
 use string_view::StringView;
 use string_view::error::{Numbered, StringModificationError};
 
-// A text in hand, and where its corrections are told. The text's type is a parameter, since the bound of a closure
-// cannot name a type that holds facts.
+// A text in hand, and where its corrections are told, as raceday has it for plain strings (the reason stands there). The
+// text's type is a parameter, since the bound of a closure cannot name a generic type that holds facts.
 #[derive(Drop)]
 pub struct Told<'a, P, T> {
     pub rt: &'a P,
@@ -34,7 +34,7 @@ impl<'a, P: Print, T: Legible> Told<'a, P, T> {
                 Ok(Told { rt, text })
             }
             Err(error) => {
-                println!(rt; "  {asked}: {}", Refused(error))?;
+                println!(rt; "  {asked}: {} ", Refused(error))?;
                 bail!("no text stands")
             }
         }
