@@ -13,7 +13,7 @@ use Rattle.rules.proofs.Sets.{Outside, outside_decides}
 use Rattle.path.specs.Pieces.{is_slash, is_path_character, is_invalid_path, pieces, holds, Piece, InvalidPath, strange, empty, dot_dot}
 
 -- no byte of it is a slash
-abbrev Unbroken : List ℕ → Type 0
+abbrev pub Unbroken : List ℕ → Type 0
 Unbroken p = All (λ b. is_slash b ≡ false) p
 
 -- the first of some pieces, and those behind it
@@ -157,7 +157,7 @@ from_piece s p w =
           ∙ or_right _ _ h
     ]
 
-piece_decides : (s p : List ℕ) → Decides (holds (pieces s) p) (Piece s p)
+pub piece_decides : (s p : List ℕ) → Decides (holds (pieces s) p) (Piece s p)
 piece_decides s p = (to_piece s p, from_piece s p)
 
 -- the tests that the code makes, by what each says
