@@ -39,6 +39,8 @@ impl<S: StringView> StringView for Narrow<S> {
 
     ghost fixed = { λ s. s.n ∷ (S.room s.inner ∷ S.fixed s.inner) };
 
+    ghost closed = { λ s. S.closed s.inner };
+
     ghost small = { λ s. min_small s.n (S.room s.inner) (S.small s.inner) };
 
     ghost short = { λ s. S.short s.inner };

@@ -1,7 +1,7 @@
 use Rattle.std.specs.Prelude.{ℕ, ◌≤◌, List, [], ◌∷◌, length, take, drop}
 use Rattle.std.proofs.Common.{arith, length-take}
 use Rattle.std.proofs.lemmas.Bool.Decides.{nat_tests}
-use Rattle.relocatable_string.specs.Region.{used, room_in}
+use Rattle.relocatable_string.specs.Region.{used, room_in, closed_in}
 use Rattle.relocatable_string.specs.declared.RelocatableStringUninit.{RelocatableStringUninit}
 use Rattle.relocatable_string.specs.declared.RelocatableString.{RelocatableString}
 
@@ -29,6 +29,10 @@ beyond_of s = drop (used_of s) (cells_of s)
 -- which region, how many cells were lent, and the capacity that was announced
 abbrev pub fixed_of : RelocatableString → List ℕ
 fixed_of s = s.region.ghost_name ∷ (length (cells_of s) ∷ (announced_of s ∷ []))
+
+-- it holds of every string, since its type says so
+abbrev pub closed_of : RelocatableString → Type 0
+closed_of s = closed_in (announced_of s) s.len (cells_of s)
 
 pub is_small : (s : RelocatableString) → room_of s ≤ 255
 is_small s = grind (arith, nat_tests)

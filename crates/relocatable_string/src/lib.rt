@@ -66,7 +66,7 @@ impl RelocatableString<'_> {
 impl RelocatableStringUninit {
     ghost use Rattle.string_view.specs.Checks.{first_fail, answered};
     ghost use Rattle.string_view.specs.Refusals.{region_told};
-    ghost use Rattle.relocatable_string.specs.Relocatable.{announced, cells_of, room_of, text_of, beyond_of, fixed_of};
+    ghost use Rattle.relocatable_string.specs.Relocatable.{announced, cells_of, room_of, text_of, beyond_of, fixed_of, closed_of};
 
     // Whether a region has the cells that `init` needs.
     pub fn fits(&self, region: &[u8]) -> Result<(), RegionTooShort>
@@ -86,6 +86,7 @@ impl RelocatableStringUninit {
         ensures cells { cells_of result ≡ wiped (announced self) region.old }
         ensures beyond { beyond_of result ≡ drop (used (announced self) (length region.old)) region.old }
         ensures fixed { fixed_of result ≡ region.entry.ghost_name ∷ (length region.old ∷ (announced self ∷ [])) }
+        ensures closed { closed_of result }
     {
         let end = self.capacity as usize + 1;
         if end <= region.len() {
@@ -104,7 +105,7 @@ impl<'a> StringView for RelocatableString<'a> {
     ghost use Rattle.cells.specs.Texts.{inserting, removing};
     ghost use Rattle.string_view.specs.Frames.{Kept};
     ghost use Rattle.string_view.specs.Sequences.{inserted, removed, insert_fits, remove_fits};
-    ghost use Rattle.relocatable_string.specs.Relocatable.{cells_of, room_of, text_of, beyond_of, fixed_of, is_small, is_short};
+    ghost use Rattle.relocatable_string.specs.Relocatable.{cells_of, room_of, text_of, beyond_of, fixed_of, closed_of, is_small, is_short};
 
     ghost room = { room_of };
 
@@ -113,6 +114,8 @@ impl<'a> StringView for RelocatableString<'a> {
     ghost beyond = { beyond_of };
 
     ghost fixed = { fixed_of };
+
+    ghost closed = { closed_of };
 
     ghost small = { is_small };
 
@@ -140,7 +143,7 @@ impl<'a> StringView for RelocatableString<'a> {
     fn put(&mut self, place: usize, bytes: &[u8]) -> bool
         ensures answer { result ≡ insert_fits (room_of self.old) (text_of self.old) place bytes.now }
         ensures text { text_of self.new ≡ (if result then inserted place bytes.now (text_of self.old) else text_of self.old) }
-        ensures frame { Kept room_of beyond_of fixed_of self.old self.new }
+        ensures frame { Kept room_of beyond_of fixed_of closed_of self.old self.new }
         ensures cells { cells_of self.new ≡ (if result then inserting (length (text_of self.old)) place bytes.now (cells_of self.old) else cells_of self.old) }
     {
         let capacity = self.capacity();
@@ -155,7 +158,7 @@ impl<'a> StringView for RelocatableString<'a> {
     fn take(&mut self, place: usize, count: usize) -> bool
         ensures answer { result ≡ remove_fits (text_of self.old) place count }
         ensures text { text_of self.new ≡ (if result then removed place count (text_of self.old) else text_of self.old) }
-        ensures frame { Kept room_of beyond_of fixed_of self.old self.new }
+        ensures frame { Kept room_of beyond_of fixed_of closed_of self.old self.new }
         ensures cells { cells_of self.new ≡ (if result then removing (length (text_of self.old)) place count (cells_of self.old) else cells_of self.old) }
     {
         if !remove_from(self.region, self.len as usize, place, count) {

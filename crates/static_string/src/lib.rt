@@ -67,6 +67,8 @@ impl StringView for StaticString {
 
     ghost fixed = { λ _. [] };
 
+    ghost closed = { λ _. Unit {0} };
+
     ghost small = { is_small };
 
     ghost short = { is_short };

@@ -2,5 +2,6 @@
 // worked out by hand.
 #![tactic(auto)]
 
+mod counted;
 #[cfg(test)]
 mod tests;

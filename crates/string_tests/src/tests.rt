@@ -1,3 +1,4 @@
+use crate::counted::{Counted, push_then_remove};
 use narrow::Narrow;
 use relocatable_string::RelocatableString;
 use static_string::StaticString;
@@ -50,6 +51,23 @@ fn cells_of_a_region(rt: HostRuntime) {
     assert!(rt; s.cells() == [b'a', b'b', b'c', b'd', 0, 7, 7, 7].as_slice());
     assert_eq!(rt; s.take(1, 2), true);
     assert!(rt; region == [b'a', b'd', 0, 0, 0, 7, 7, 7]);
+}
+
+// A count that was right at first is right after plain calls.
+#[test]
+fn a_counted_text(rt: HostRuntime) {
+    let mut s = Counted {
+        inner: StaticString::new(4),
+        count: 0,
+    };
+    assert_eq!(rt; s.put(0, b"GBR"), true);
+    assert_eq!(rt; push_then_remove(&mut s, b'7', 1, 2), true);
+    assert_eq!(rt; s.capacity(), 4);
+    assert_eq!(rt; s.len(), 2);
+    assert_eq!(rt; s.at(1), Some(b'7'));
+    assert_eq!(rt; s.count, 2);
+    assert_eq!(rt; push_then_remove(&mut s, 0, 0, 2), false);
+    assert_eq!(rt; s.count, 2);
 }
 
 // A string in too short a region has the capacity 0 and leaves it alone.

@@ -22,6 +22,10 @@ pub trait StringView {
     // further numbers that no call changes: the ghost names of lent references, how many cells were lent, capacities that a wrapper hides
     ghost fixed: { Self → List ℕ };
 
+    // behind the text stand zeros up to the capacity, or what else a storage promises of itself: every call keeps it
+    // where it holds
+    ghost closed: { Self → Type 0 };
+
     fn capacity(&self) -> usize
         ensures answer { result ≡ room self.now };
 
@@ -36,13 +40,13 @@ pub trait StringView {
     fn put(&mut self, place: usize, bytes: &[u8]) -> bool
         ensures answer { result ≡ insert_fits (room self.old) (seq self.old) place bytes.now }
         ensures text { seq self.new ≡ (if result then inserted place bytes.now (seq self.old) else seq self.old) }
-        ensures frame { Kept room beyond fixed self.old self.new };
+        ensures frame { Kept room beyond fixed closed self.old self.new };
 
     // Removes `count` bytes at the place, if so many stand there; else nothing changes.
     fn take(&mut self, place: usize, count: usize) -> bool
         ensures answer { result ≡ remove_fits (seq self.old) place count }
         ensures text { seq self.new ≡ (if result then removed place count (seq self.old) else seq self.old) }
-        ensures frame { Kept room beyond fixed self.old self.new };
+        ensures frame { Kept room beyond fixed closed self.old self.new };
 
     // a capacity, and a text, of at most 255
     ghost small: { (x : Self) → room x ≤ 255 };

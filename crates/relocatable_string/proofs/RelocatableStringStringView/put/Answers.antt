@@ -15,4 +15,5 @@ returns-clause-frame c =
       room = search rules;
       beyond = rw c.insert_into.auto.cells (inserting_beyond _ _ _ _ c.args.place (used_of c.args.self.now) c.if-not-insert_into.ensures.cells (grind (arith, nat_tests)) (grind (arith, nat_tests)) (grind (arith, nat_tests)));
       fixed = search rules;
+      closed = search rules;
     }

@@ -15,4 +15,5 @@ returns-clause-frame c =
       room = search rules;
       beyond = rw c.remove_from.auto.cells (removing_beyond _ _ _ c.args.place _ (used_of c.args.self.now) c.if-not-remove_from.ensures.cells (grind (arith, nat_tests)) (grind (arith, nat_tests)) (grind (arith, nat_tests)));
       fixed = search rules;
+      closed = search rules;
     }
