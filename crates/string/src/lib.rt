@@ -96,8 +96,10 @@ pub fn pop<S: StringView>(s: &mut S) -> Option<u8>
     ensures text { S.seq s.new ≡ take (length (S.seq s.old) - 1) (S.seq s.old) }
     ensures frame { Frame S.StringView s.old s.new }
 {
-    let last = s.len().checked_sub(1)?;
-    remove(s, last)
+    match s.len() {
+        0 => None,
+        len => remove(s, len - 1),
+    }
 }
 
 // Inserts a byte at the end.

@@ -34,6 +34,6 @@ impl<'a> Pick for ByteList<'a> {
     ghost picked = { λ p b. listed p.bytes.now b };
 
     fn picks(&self, byte: u8) -> bool {
-        self.bytes.contains(&byte)
+        self.bytes.iter().any(|listed| *listed == byte)
     }
 }

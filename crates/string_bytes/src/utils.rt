@@ -8,5 +8,8 @@ pub fn strnlen(bytes: &[u8], len: usize) -> usize
     ensures first { FirstAt is_nul (take len bytes.now) result }
     ensures bound { result ≤ length bytes.now }
 {
-    bytes.iter().take(len).take_while(|b| **b != 0).count()
+    let slot = &bytes[..len.min(bytes.len())];
+    slot.iter()
+        .position(|byte| *byte == 0)
+        .unwrap_or(slot.len())
 }

@@ -1,4 +1,5 @@
-use Rattle.std.specs.Prelude.{◌≡◌, ℕ, ◌<◌, ◌⊎◌, List, [], ◌∷◌}
+use Rattle.std.specs.Prelude.{◌≡◌, ℕ, ◌<◌, ◌⊎◌, not, List, [], ◌∷◌, Option, ◌==◌}
+use Rattle.std.specs.List.{find, zip}
 use Rattle.std.specs.declared.cmp.Ordering.{Ordering}
 use Rattle.std.specs.Ordering.{MatchOrdering}
 
@@ -12,6 +13,10 @@ Precedes (x ∷ xs) (y ∷ ys) = (x < y) ⊎ ((x ≡ y) × Precedes xs ys)
 -- less, equal or greater
 abbrev pub Compared : List ℕ → List ℕ → Ordering → Type 0
 Compared xs ys r = MatchOrdering r (Precedes xs ys) (xs ≡ ys) (Precedes ys xs)
+
+-- the two elements at the first place at which xs and ys differ
+abbrev pub first_difference : List ℕ → List ℕ → Option (ℕ × ℕ)
+first_difference xs ys = find (λ p. not (p.0 == p.1)) (zip xs ys)
 
 -- of two sequences exactly one comes first, unless they are the same
 pub record TotalOrder : Type 0 where

@@ -3,7 +3,7 @@
 ghost use Rattle.std.specs.Prelude.{◌≡◌, ◌↔◌, IsTrue, length, if◌then◌else◌};
 ghost use Rattle.string_view.specs.Sequences.{removed};
 ghost use Rattle.string_view.specs.Views.{Frame};
-ghost use Rattle.string_search.specs.Order.{Compared, TotalOrder};
+ghost use Rattle.string_search.specs.Order.{first_difference, Compared, TotalOrder};
 ghost use Rattle.string_search.specs.Search.{Stands, First, Last, StrippedFront, StrippedEnd};
 
 use std::cmp::Ordering;
@@ -51,7 +51,8 @@ pub fn strip_prefix<S: StringView>(s: &mut S, bytes: &[u8]) -> bool
     ensures text { StrippedFront result (S.seq s.old) bytes.now (S.seq s.new) }
     ensures frame { Frame S.StringView s.old s.new }
 {
-    strip_at(s, bytes, 0)
+    // a pattern longer than the text is not looked at
+    bytes.len() <= s.len() && strip_at(s, bytes, 0)
 }
 
 // Removes the pattern from the end, if the text ends with it.
@@ -59,10 +60,15 @@ pub fn strip_suffix<S: StringView>(s: &mut S, bytes: &[u8]) -> bool
     ensures text { StrippedEnd result (S.seq s.old) bytes.now (S.seq s.new) }
     ensures frame { Frame S.StringView s.old s.new }
 {
-    let Some(place) = s.len().checked_sub(bytes.len()) else {
-        return false;
-    };
-    strip_at(s, bytes, place)
+    let len = s.len();
+    bytes.len() <= len && strip_at(s, bytes, len - bytes.len())
+}
+
+// The two bytes at the first place at which two texts differ; none, where one is a start of the other.
+fn first_difference<S: StringView, T: StringView>(a: &S, b: &T) -> Option<(u8, u8)>
+    ensures { result ≡ first_difference (S.seq a.now) (T.seq b.now) }
+{
+    bytes_of(a).zip(bytes_of(b)).find(|(x, y)| x != y)
 }
 
 // The order of two texts by their bytes. A proper start comes first.
@@ -70,12 +76,16 @@ pub fn compare<S: StringView, T: StringView>(a: &S, b: &T) -> Ordering
     ensures answer { Compared (S.seq a.now) (T.seq b.now) result }
     ensures total { TotalOrder }
 {
-    bytes_of(a).cmp(bytes_of(b))
+    // `cmp` of the iterators would ask of each byte which of three it is, in three times the code
+    match first_difference(a, b) {
+        Some((x, y)) => x.cmp(&y),
+        None => a.len().cmp(&b.len()),
+    }
 }
 
 // Whether two texts are the same.
 pub fn same<S: StringView, T: StringView>(a: &S, b: &T) -> bool
     ensures answer { IsTrue result ↔ (S.seq a.now ≡ T.seq b.now) }
 {
-    bytes_of(a).eq(bytes_of(b))
+    a.len() == b.len() && bytes_of(a).eq(bytes_of(b))
 }

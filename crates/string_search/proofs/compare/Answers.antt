@@ -1,14 +1,16 @@
-use Rattle.std.specs.Ordering.{nat_cmp}
-use Rattle.std.proofs.Common.{◌≡◌, refl}
-use Rattle.string_view.specs.Left.{left}
-use Rattle.std.proofs.lemmas.Iterator.Search.{cmp_from_yields_List}
-use Rattle.std.proofs.lemmas.Iterator.Consumers.{YieldsList-from_first}
-use Rattle.string_search.proofs.Order.{compared, total_order}
+use Rattle.std.proofs.Common.{arith}
+use Rattle.std.proofs.lemmas.Grind.{common_steps}
+use Rattle.string_search.proofs.Order.{compared_by, total_order}
 use Rattle.string_search.proofs.compare.Goals as goal
 
-pub returns-clause-answer : goal.returns-clause-answer
-returns-clause-answer g c =
-    compared _ _ _ (cmp_from_yields_List (λ x y. y ≡ x) _ nat_cmp _ c.cmp.ensures.ran (YieldsList-from_first (λ x. x) (left g.S.StringView) _ c.bytes_of.ensures.bytes) (λ it e. YieldsList-from_first (λ x. x) (left g.T.StringView) _ (cc)) (λ x y. refl))
+pub returns-in-Some-clause-answer : goal.returns-in-Some-clause-answer
+returns-in-Some-clause-answer g c = compared_by _ _ c.first_difference.result _ c.first_difference.ensures (grind (arith, common_steps))
 
-pub returns-clause-total : goal.returns-clause-total
-returns-clause-total g c = total_order
+pub returns-in-Some-clause-total : goal.returns-in-Some-clause-total
+returns-in-Some-clause-total g c = total_order
+
+pub returns-in-None-clause-answer : goal.returns-in-None-clause-answer
+returns-in-None-clause-answer g c = compared_by _ _ c.first_difference.result _ c.first_difference.ensures (grind (arith, common_steps))
+
+pub returns-in-None-clause-total : goal.returns-in-None-clause-total
+returns-in-None-clause-total g c = total_order
