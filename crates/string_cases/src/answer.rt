@@ -95,3 +95,16 @@ impl fmt::Display for Answer {
         }
     }
 }
+
+// What all storages answer, if they do and the call has a word that is known.
+#[derive(Clone, Copy)]
+pub struct Agreed(pub Option<Answer>);
+
+impl fmt::Display for Agreed {
+    fn fmt<W: fmt::Write>(&self, f: &mut fmt::Formatter<W>) -> fmt::Result {
+        match &self.0 {
+            Some(answer) => write!(f, "{answer}"),
+            None => f.write_str("?"),
+        }
+    }
+}

@@ -10,7 +10,7 @@ mod answer;
 mod call;
 mod script;
 
-use answer::Answer;
+use answer::{Agreed, Answer};
 use call::Call;
 use script::{Encoded, decoded};
 use string_search::same;
@@ -41,18 +41,16 @@ impl Strings<'_> {
 fn step(rt: &(impl Print + AllocGlobal), strings: &mut Strings, line: &str) -> anyhow::Result<()> {
     let (words, quoted) = line.split_once('"').unwrap_or((line, ""));
     let bytes = decoded(rt.alloc(), quoted.trim_end_matches('"'))?;
-    print!(rt; "{line} -> ")?;
-    match Call::new(words, bytes.as_slice()).and_then(|call| strings.send(&call)) {
-        Some(answer) => print!(rt; "{answer}")?,
-        None => print!(rt; "?")?,
-    }
+    let call = Call::new(words, bytes.as_slice());
+    let answer = Agreed(call.and_then(|call| strings.send(&call)));
     let text = Encoded(&strings.by_value);
     let mark = if strings.agree() {
         ""
     } else {
         ", and the storages differ"
     };
-    println!(rt; ": \"{text}\"{mark}")?;
+    // at once, so that a line is written whole
+    println!(rt; "{line} -> {answer}: \"{text}\"{mark}")?;
     Ok(())
 }
 
