@@ -34,8 +34,7 @@ fn is_no_name(string: &[u8]) -> bool
 #[derive(Clone, Copy)]
 pub struct FileName;
 
-// Offered by each rule itself: beside a blanket `impl` for rules by characters, no function that holds a checked
-// text under a `Pair` is covered.
+// Offered by each rule itself, which promises beside the trait's clauses what its own answer means.
 impl SemanticStringAccessor for FileName {
     ghost bad_characters = { λ _. some_outside is_portable };
 

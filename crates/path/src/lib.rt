@@ -47,8 +47,7 @@ fn is_no_path(string: &[u8]) -> bool
 #[derive(Clone, Copy)]
 pub struct Path;
 
-// Offered by each rule itself: beside a blanket `impl` for rules by characters, no function that holds a checked
-// text under a `Pair` is covered.
+// Offered by each rule itself, which promises beside the trait's clauses what its own answer means.
 impl SemanticStringAccessor for Path {
     ghost bad_characters = { λ _. some_outside is_path_character };
 

@@ -70,8 +70,7 @@ fn is_mark(string: &[u8]) -> bool
 #[derive(Clone, Copy)]
 pub struct SailMark;
 
-// Offered by each rule itself: beside a blanket `impl` for rules by characters, no function that holds a checked
-// text under a `Pair` is covered.
+// Offered by each rule itself, which promises beside the trait's clauses what its own answer means.
 impl SemanticStringAccessor for SailMark {
     ghost bad_characters = { λ _. some_outside is_mark_character };
 

@@ -36,3 +36,7 @@ end_strip_is false s p t h =
 pub front_strip_short : (b : Bool) (s p t : List ℕ) → StrippedFront b s p t → length t ≤ length s
 front_strip_short true s p t e = omega (arith, ap length e, length-append p t)
 front_strip_short false s p t h = omega (arith, ap length h.0)
+
+pub end_strip_short : (b : Bool) (s p t : List ℕ) → StrippedEnd b s p t → length t ≤ length s
+end_strip_short true s p t e = omega (arith, ap length e, length-append t p)
+end_strip_short false s p t h = omega (arith, ap length h.0)

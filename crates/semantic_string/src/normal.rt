@@ -3,6 +3,7 @@ ghost use Rattle.static_string.specs.Fixed as fixed;
 ghost use Rattle.string_search.specs.Order.{Compared, TotalOrder};
 ghost use Rattle.string_bytes.specs.Buffers.{AnswersLength, FillsFront};
 ghost use Rattle.semantic_string.specs.Normal.{normal_of};
+ghost use Rattle.semantic_string.specs.Texts.{Sound};
 
 use crate::SemanticString;
 use rules::{NormalForm, SemanticStringAccessor};
@@ -16,9 +17,9 @@ use string_view::error::BufferTooShort;
 impl<S: StringView, R: NormalForm> SemanticString<S, R> {
     // Writes the normal form into the first cells of the buffer, and answers how many bytes it is.
     pub fn normalize(&self, buffer: &mut [u8]) -> Result<usize, BufferTooShort>
-        ensures answer { AnswersLength (normal_of R.NormalForm.own self.now) buffer.old result }
-        ensures cells { FillsFront (normal_of R.NormalForm.own self.now) buffer.old buffer.new result }
-        ensures valid { R.bad_content self.now.rule (normal_of R.NormalForm.own self.now) ≡ false }
+        ensures answer { AnswersLength (normal_of S.StringView R.NormalForm.own self.now) buffer.old result }
+        ensures cells { FillsFront (normal_of S.StringView R.NormalForm.own self.now) buffer.old buffer.new result }
+        ensures valid { Sound S.StringView R.SemanticStringAccessor self.now → R.bad_content self.now.rule (normal_of S.StringView R.NormalForm.own self.now) ≡ false }
     {
         let text = StaticString::copy_of(&self.storage);
         self.rule.normalize(text.as_slice(), buffer)
@@ -26,7 +27,7 @@ impl<S: StringView, R: NormalForm> SemanticString<S, R> {
 
     // The normal form, as a string of its own, by way of a buffer, since that is what a rule writes into.
     fn normalized(&self) -> StaticString
-        ensures { fixed.text_of result ≡ normal_of R.NormalForm.own self.now }
+        ensures { fixed.text_of result ≡ normal_of S.StringView R.NormalForm.own self.now }
     {
         let mut normal = [0u8; 255];
         let mut copy = StaticString::new(255);
@@ -38,14 +39,14 @@ impl<S: StringView, R: NormalForm> SemanticString<S, R> {
 
     // Whether two texts have the same normal form.
     pub fn same<T: StringView>(&self, other: &SemanticString<T, R>) -> bool
-        ensures answer { IsTrue result ↔ (normal_of R.NormalForm.own self.now ≡ normal_of R.NormalForm.own other.now) }
+        ensures answer { IsTrue result ↔ (normal_of S.StringView R.NormalForm.own self.now ≡ normal_of T.StringView R.NormalForm.own other.now) }
     {
         same(&self.normalized(), &other.normalized())
     }
 
     // The order of two texts by the bytes of their normal forms. A proper start comes first.
     pub fn compare<T: StringView>(&self, other: &SemanticString<T, R>) -> Ordering
-        ensures answer { Compared (normal_of R.NormalForm.own self.now) (normal_of R.NormalForm.own other.now) result }
+        ensures answer { Compared (normal_of S.StringView R.NormalForm.own self.now) (normal_of T.StringView R.NormalForm.own other.now) result }
         ensures total { TotalOrder }
     {
         compare(&self.normalized(), &other.normalized())

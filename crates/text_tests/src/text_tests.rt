@@ -119,6 +119,22 @@ fn questions<S: StringView + Drop>(rt: &impl Abort, storage: S) -> Result<(), Se
     Ok(())
 }
 
+// What a caller may write: a struct without bounds that holds a text on a narrowed storage, and a closure on any text.
+#[derive(Drop)]
+struct Card<S, R> {
+    mark: SemanticString<Narrow<S>, R>,
+}
+
+fn correct<
+    S: StringView,
+    R: SemanticStringAccessor,
+    F: FnOnce(&mut SemanticString<S, R>) -> Result<(), SemanticStringError>,
+>(text: &mut SemanticString<S, R>, correction: F) -> Result<(), SemanticStringError>
+    requires { F.IsAlwaysCallable correction }
+{
+    correction(text)
+}
+
 #[test]
 fn by_value(rt: HostRuntime) -> Result<(), SemanticStringError> {
     insertions(&rt, StaticString::new(8))?;
@@ -147,6 +163,24 @@ fn narrowed(rt: HostRuntime) -> Result<(), SemanticStringError> {
         &rt,
         Narrow::new(RelocatableString::new_uninit(18).init(&mut region), 8),
     )
+}
+
+#[test]
+fn held_and_handed_on(rt: HostRuntime) -> Result<(), SemanticStringError> {
+    let storage = Narrow::new(StaticString::new(200), 8);
+    let mark = SemanticString::new(storage, SailMark, b"GBR 12")?;
+    let mut card = Card { mark };
+    assert_eq!(rt;
+        correct(&mut card.mark, |mark| mark.push_bytes(b"34")),
+        Ok(())
+    );
+    assert_eq!(rt; correct(&mut card.mark, |mark| mark.push(b'5')), Err(FULL));
+    assert_eq!(rt;
+        correct(&mut card.mark, |mark| mark.truncate(4)),
+        Err(INVALID)
+    );
+    reads(&rt, &card.mark, b"GBR 1234");
+    Ok(())
 }
 
 #[test]

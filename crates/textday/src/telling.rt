@@ -11,7 +11,7 @@ use string_view::StringView;
 use string_view::error::{Numbered, StringModificationError};
 
 // A text in hand, and where its corrections are told, as raceday has it for plain strings (the reason stands there). The
-// text's type is a parameter, since the bound of a closure cannot name a generic type that holds facts.
+// text's type is a parameter, since telling asks no more of it than that it can be read.
 #[derive(Drop)]
 pub struct Told<'a, P, T> {
     pub rt: &'a P,
