@@ -49,7 +49,7 @@ fn step(rt: &(impl Print + AllocGlobal), strings: &mut Strings, line: &str) -> a
     } else {
         ", and the storages differ"
     };
-    // at once, so that a line is written whole
+    // in one print, so that a line of up to the 1,024 bytes that a print holds is written whole
     println!(rt; "{line} -> {answer}: \"{text}\"{mark}")?;
     Ok(())
 }
